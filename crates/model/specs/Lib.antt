@@ -1,0 +1,11 @@
+-- What a reader must believe, in the paper's order.
+pub mod Basics
+pub mod Units
+pub mod Link
+pub mod Table
+pub mod TableFile
+pub mod Arrival
+pub mod Bounds
+pub mod Machine
+pub mod Report
+pub mod Sheet

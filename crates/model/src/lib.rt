@@ -1,0 +1,1 @@
+// What the paper means: definitions and theorems, in specs/ and proofs/. See README.md.
