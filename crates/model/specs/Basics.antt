@@ -50,6 +50,11 @@ entries blank zero l = []
 entries blank (suc n) [] = blank ∷ entries blank n []
 entries blank (suc n) (x ∷ l) = x ∷ entries blank n l
 
+-- so it is of every element
+pub data Each {A : Type 0} (P : A → Type 0) : List A → Type 0 where
+  done : Each P []
+  also : {a : A} {l : List A} → P a → Each P l → Each P (a ∷ l)
+
 -- a check of the paper's table of refusals: its number, and whether it is met
 pub record Check : Type 0 where
   pub number : ℕ
@@ -62,3 +67,8 @@ check n b = record { number = n; met = b }
 unfoldable pub firstMet : List Check → ℕ
 firstMet [] = 0
 firstMet (c ∷ cs) = cond (c .met) (c .number) (firstMet cs)
+
+-- of two refusals in order, 0 being none
+unfoldable pub firstRefusal : ℕ → ℕ → ℕ
+firstRefusal zero n = n
+firstRefusal (suc k) n = suc k

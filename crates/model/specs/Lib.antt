@@ -9,3 +9,6 @@ pub mod Bounds
 pub mod Machine
 pub mod Report
 pub mod Sheet
+pub mod Run
+pub mod Promises
+pub mod Examples

@@ -92,7 +92,7 @@ joined departures a = record { departures = departures ++ a .departures; schedul
 
 unfoldable pub ticks : ℕ → Scheduler → Advance
 ticks zero s = advanced [] s
-ticks (suc k) s = joined (tick s .departures) (ticks k (tick s .scheduler))
+ticks (suc k) s = let a = tick s in joined (a .departures) (ticks k (a .scheduler))
 
 -- "Advance to T, for each tick m from clock to T − 1"
 unfoldable pub advance : ℕ → Scheduler → Advance

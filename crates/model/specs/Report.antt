@@ -236,12 +236,11 @@ withLineTick s line time = record { scheduler = s .scheduler; marks = s .marks; 
 abbrev pub arrived : ℕ → ℕ → ℕ → Frame
 arrived number len time = record { number = number; length = len; arrival = time }
 
--- "A wait report advances to T. A frame report .. advances, sets the line's tick to T, then gives a verdict"
-unfoldable pub after : Table → Port → Report → Judged
-after t s (wait time) = judged (withScheduler s (advance time (s .scheduler) .scheduler)) 0
-after t s (frame time line number len) =
-    judge t (withLineTick (withScheduler s (advance time (s .scheduler) .scheduler)) line time) (arrived number len time)
-    (admitted t line len (placeOf number (t .links)))
+-- of a report to a port that has advanced to its tick: "A frame report .. sets the line's tick to T, then gives a verdict"; "0 for a wait"
+unfoldable pub judgeReport : Table → Port → Report → Judged
+judgeReport t s (wait time) = judged s 0
+judgeReport t s (frame time line number len) =
+    judge t (withLineTick s line time) (arrived number len time) (admitted t line len (placeOf number (t .links)))
 
 -- "Departures go to a lent list .. three each: number, length, tick freed; the rest of the list stays"
 abbrev pub threeNumbers : Departure → List ℕ
@@ -260,12 +259,12 @@ answered verdict departures = record { refused = 0; verdict = verdict; frames = 
 abbrev pub refusal : ℕ → Answer
 refusal n = record { refused = n; verdict = 0; frames = 0; bytes = 0 }
 
--- "A refusal returns its number, .. for a report the same port and no verdict or counts, and writes to no lent buffer"
+-- a report "advances", then is judged. "A refusal returns its number, .. for a report the same port and no verdict or counts, and writes to no lent buffer"
 unfoldable pub acceptedOr : ℕ → Table → Port → Call → Stepped
 acceptedOr zero t s c =
-    let departures = advance (tickOf (c .report)) (s .scheduler) .departures in
-    let j = after t s (c .report) in
-    record { port = j .port; answer = answered (j .verdict) departures; list = listed departures (c .list) }
+    let a = advance (tickOf (c .report)) (s .scheduler) in
+    let j = judgeReport t (withScheduler s (a .scheduler)) (c .report) in
+    record { port = j .port; answer = answered (j .verdict) (a .departures); list = listed (a .departures) (c .list) }
 acceptedOr (suc n) t s c = record { port = s; answer = refusal (suc n); list = c .list }
 
 unfoldable pub step : Table → Port → Call → Stepped

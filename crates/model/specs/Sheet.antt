@@ -6,7 +6,7 @@ use Prim.Native.Char.{code}
 use Prim.Native.String.{String, [] as ended, _∷_ as _then_}
 use lib.Dec.{eqb, ltb}
 use lib.ListN.{take}
-use Rattle.model.specs.Basics.{eight}
+use Rattle.model.specs.Basics.{eight, firstRefusal}
 use Rattle.model.specs.Table.{Table, sizeOf}
 use Rattle.model.specs.TableFile.{Reading, readTable}
 use Rattle.model.specs.Bounds.{boundsRefusal, hold, bound}
@@ -35,19 +35,19 @@ unfoldable pub fill : ℕ → ℕ → List ℕ
 fill bound size = cond (eqb size 0) (text "-") (numeral ((1_000 * bound + size - 1) / size))
 
 -- "priority, bound, hold, size, spare = size − bound, .. and fill"
-unfoldable pub sheetLine : Table → ℕ → List ℕ
-sheetLine t p =
-    numeral p
+unfoldable pub sheetLine : ℕ → ℕ → ℕ → ℕ → List ℕ
+sheetLine priority bound hold size =
+    numeral priority
     ++ text " "
-    ++ numeral (bound t p)
+    ++ numeral bound
     ++ text " "
-    ++ numeral (hold t p)
+    ++ numeral hold
     ++ text " "
-    ++ numeral (sizeOf t p)
+    ++ numeral size
     ++ text " "
-    ++ difference (sizeOf t p) (bound t p)
+    ++ difference size bound
     ++ text " "
-    ++ fill (bound t p) (sizeOf t p)
+    ++ fill bound size
     ++ text "\n"
 
 unfoldable pub header : List ℕ
@@ -55,13 +55,8 @@ header = text "priority bound hold size spare fill\n"
 
 -- "`refused N`, or a header and eight lines"
 unfoldable pub sheetOr : ℕ → Table → List ℕ
-sheetOr zero t = header ++ flatMap (sheetLine t) (eight (λ p. p))
+sheetOr zero t = header ++ flatMap (λ p. sheetLine p (bound t p) (hold t p) (sizeOf t p)) (eight (λ p. p))
 sheetOr (suc n) t = text "refused " ++ numeral (suc n) ++ text "\n"
-
--- the refusal of the file, then that of the bounds
-unfoldable pub firstRefusal : ℕ → ℕ → ℕ
-firstRefusal zero n = n
-firstRefusal (suc k) n = suc k
 
 -- "The program sheet reads a table file on standard input (at most 4,653 bytes of it)"
 unfoldable pub sheet : List ℕ → List ℕ

@@ -79,6 +79,16 @@ linkRead rest =
 unfoldable pub sizesRead : List ℕ → List ℕ
 sizesRead rest = eight (λ p. numberAt (4 + 4 * p) 4 rest)
 
+-- the checks of each record, in the order of the paper's table; rest: "the bytes not yet read"
+unfoldable pub countRecordChecks : List ℕ → List Check
+countRecordChecks file = headerChecks 1 6 file ++ countChecks (numberAt 4 2 file) (numberAt 6 2 file)
+
+unfoldable pub linkRecordChecks : ℕ → Option ℕ → List ℕ → List Check
+linkRecordChecks lines previous rest = headerChecks 2 16 rest ++ (check 4 (not (eqb (numberAt 9 1 rest) 0)) ∷ linkChecks lines previous (linkRead rest))
+
+unfoldable pub sizesRecordChecks : List ℕ → List Check
+sizesRecordChecks rest = headerChecks 3 34 rest ++ sizeChecks (sizesRead rest) ++ (check 7 (ltb 36 (length rest)) ∷ [])
+
 pub record Reading : Type 0 where
   -- 0, or the number of the refusal
   pub refused : ℕ
@@ -89,10 +99,9 @@ unfoldable pub stopOr : ℕ → Reading → Reading
 stopOr zero next = next
 stopOr (suc n) next = record { refused = suc n; table = blankTable }
 
--- rest: "the bytes not yet read"
 unfoldable pub readSizes : ℕ → List VirtualLink → List ℕ → Reading
 readSizes lines links rest =
-    stopOr (firstMet (headerChecks 3 34 rest ++ sizeChecks (sizesRead rest) ++ (check 7 (ltb 36 (length rest)) ∷ [])))
+    stopOr (firstMet (sizesRecordChecks rest))
     (record { refused = 0; table = record { lines = lines; links = links; sizes = sizesRead rest } })
 
 -- n records of kind 2 are left; links: those read
@@ -101,14 +110,14 @@ readLinks lines zero previous links rest = readSizes lines links rest
 readLinks lines (suc n) previous links rest =
     let v = linkRead rest in
     let next = readLinks lines n (some (v .number)) (links ++ (v ∷ [])) (drop 18 rest) in
-    stopOr (firstMet (headerChecks 2 16 rest ++ (check 4 (not (eqb (numberAt 9 1 rest) 0)) ∷ linkChecks lines previous v))) next
+    stopOr (firstMet (linkRecordChecks lines previous rest)) next
 
 unfoldable pub readTable : List ℕ → Reading
 readTable file =
     let lines = numberAt 4 2 file in
     let n = numberAt 6 2 file in
     let next = readLinks lines n none [] (drop 8 file) in
-    stopOr (firstMet (headerChecks 1 6 file ++ countChecks lines n)) next
+    stopOr (firstMet (countRecordChecks file)) next
 
 -- ---- writing
 

@@ -1,0 +1,95 @@
+-- Numbers in bytes, over any width.
+use mathlib.Core.Path.{_≡_, refl, ap}
+use mathlib.Core.List.{List, [], _∷_, _++_, flatMap, append-assoc}
+use Prim.Native.Nat.{ℕ, zero, suc, _+_, _*_, _/_, _%_, _^_, _≤_, _<_, min}
+use native.Mathlib.Nat.{mul-zero}
+use native.Mathlib.Omega.{arith}
+use lib.ListN.{length, getD, take, drop, length-take, length-drop, take-append-drop}
+use lib.Seq.{getD-take, getD-drop, drop-drop, take-at, drop-at}
+use Rattle.model.specs.TableFile.{toBytes, fromBytes, numberAt}
+use Rattle.model.proofs.Lists.{listTo}
+
+-- every element is a byte
+abbrev pub AllBytes : List ℕ → Type 0
+AllBytes bytes = (i : ℕ) → i < length bytes → getD bytes i 0 < 256
+
+pub length-toBytes : (k n : ℕ) → length (toBytes k n) ≡ k
+unfolding toBytes
+length-toBytes zero n = refl
+length-toBytes (suc k) n = ap suc (length-toBytes k (n / 256))
+
+pub toBytes-bytes : (k n : ℕ) → AllBytes (toBytes k n)
+unfolding toBytes
+toBytes-bytes zero n i h = absurd (omega arith)
+toBytes-bytes (suc k) n zero h = omega arith
+toBytes-bytes (suc k) n (suc i) h = toBytes-bytes k (n / 256) i (omega arith)
+
+pub from-toBytes : (k n : ℕ) → n < 256 ^ k → fromBytes (toBytes k n) ≡ n
+unfolding toBytes fromBytes
+from-toBytes zero n h = omega arith
+from-toBytes (suc k) n h = omega (arith, from-toBytes k (n / 256) (omega arith))
+
+-- the first of a list of bytes is one, and the others are
+all-head : (b : ℕ) (bytes : List ℕ) → AllBytes (b ∷ bytes) → b < 256
+all-head b bytes all = all 0 (omega arith)
+
+all-tail : (b : ℕ) (bytes : List ℕ) → AllBytes (b ∷ bytes) → AllBytes bytes
+all-tail b bytes all i h = all (suc i) (omega arith)
+
+pub fromBytes-below : (k : ℕ) (bytes : List ℕ) → length bytes ≡ k → AllBytes bytes → fromBytes bytes < 256 ^ k
+unfolding fromBytes
+fromBytes-below zero [] e all = omega arith
+fromBytes-below zero (b ∷ bytes) e all = absurd (omega arith)
+fromBytes-below (suc k) [] e all = absurd (omega arith)
+fromBytes-below (suc k) (b ∷ bytes) e all = omega (arith, all-head b bytes all, fromBytes-below k bytes (omega arith) (all-tail b bytes all))
+
+pub to-fromBytes : (k : ℕ) (bytes : List ℕ) → length bytes ≡ k → AllBytes bytes → toBytes k (fromBytes bytes) ≡ bytes
+unfolding toBytes fromBytes
+to-fromBytes zero [] e all = refl
+to-fromBytes zero (b ∷ bytes) e all = absurd (omega arith)
+to-fromBytes (suc k) [] e all = absurd (omega arith)
+to-fromBytes (suc k) (b ∷ bytes) e all =
+    let below : b < 256 = all-head b bytes all in
+    let low : (b + 256 * fromBytes bytes) % 256 ≡ b = omega arith in
+    let high : (b + 256 * fromBytes bytes) / 256 ≡ fromBytes bytes = omega arith in
+    rw (low, high, to-fromBytes k bytes (omega arith) (all-tail b bytes all))
+
+-- ---- parts of a list of bytes
+
+pub all-drop : (n : ℕ) (bytes : List ℕ) → AllBytes bytes → AllBytes (drop n bytes)
+all-drop n bytes all i h = rw getD-drop (all (n + i) (omega (arith, simp length-drop at h)))
+
+pub all-take : (n : ℕ) (bytes : List ℕ) → AllBytes bytes → AllBytes (take n bytes)
+all-take n bytes all i h =
+    let l : i < min n (length bytes) = simp length-take at h in
+    rw (getD-take n bytes i 0 (omega arith)) (all i (omega arith))
+
+-- ---- a number among bytes
+
+-- the k bytes from place i on are those of the number that stands there
+pub number-bytes : (i k : ℕ) (bytes : List ℕ) → AllBytes bytes → i + k ≤ length bytes → toBytes k (numberAt i k bytes) ++ drop (i + k) bytes ≡ drop i bytes
+number-bytes i k bytes all h =
+    rw (← drop-drop) (rw (to-fromBytes k (take k (drop i bytes)) (omega (arith, length-take k (drop i bytes), length-drop i bytes)) (all-take k (drop i bytes) (all-drop i bytes all))) (take-append-drop k (drop i bytes)))
+
+-- the bytes of n numbers at places k apart are those that stand there
+pub numbers-bytes : (k : ℕ) (bytes : List ℕ) → AllBytes bytes → (n : ℕ) (place : ℕ → ℕ) → ((p : ℕ) → place p + k ≡ place (suc p)) → ((p : ℕ) → p < n → place p + k ≤ length bytes)
+    → flatMap (toBytes k) (listTo (λ p. numberAt (place p) k bytes) n) ++ drop (place n) bytes ≡ drop (place 0) bytes
+unfolding flatMap
+numbers-bytes k bytes all zero place next room = refl
+numbers-bytes k bytes all (suc n) place next room =
+    rw (append-assoc, numbers-bytes k bytes all n (λ p. place (suc p)) (λ p. next (suc p)) (λ p h. room (suc p) (omega arith)), ← next 0)
+    (number-bytes (place 0) k bytes all (room 0 (omega arith)))
+
+-- ---- a number that was written
+
+pub number-written : (k n : ℕ) (rest : List ℕ) → n < 256 ^ k → numberAt 0 k (toBytes k n ++ rest) ≡ n
+number-written k n rest h = rw (take-at (toBytes k n) rest k (length-toBytes k n)) (from-toBytes k n h)
+
+-- place p among numbers of k bytes each
+pub number-among : (k : ℕ) (ns rest : List ℕ) (p : ℕ) → p < length ns → getD ns p 0 < 256 ^ k → numberAt (k * p) k (flatMap (toBytes k) ns ++ rest) ≡ getD ns p 0
+unfolding flatMap
+number-among k [] rest p l h = absurd (omega arith)
+number-among k (n ∷ ns) rest zero l h = rw (mul-zero, append-assoc) (number-written k n (flatMap (toBytes k) ns ++ rest) h)
+number-among k (n ∷ ns) rest (suc p) l h =
+    let e : k * suc p ≡ k + k * p = omega arith in
+    rw (e, append-assoc, ← drop-drop, drop-at (toBytes k n) (flatMap (toBytes k) ns ++ rest) k (length-toBytes k n)) (number-among k ns rest p (omega arith) h)

@@ -1,0 +1,108 @@
+-- The first check of a list that is met, and lists of conditions that all hold.
+use mathlib.Core.Path.{_≡_, refl, sym, _∙_}
+use mathlib.Core.Bool.{Bool, true, false, cond, and-eq-true-iff}
+use mathlib.Core.List.{List, [], _∷_, _++_}
+use Prim.Native.Nat.{ℕ, zero, suc, _≤_, _<_}
+use native.Mathlib.Omega.{arith}
+use Rattle.model.specs.Basics.{allHold, Check, firstMet, firstRefusal}
+
+-- ---- conditions
+
+abbrev pub AllTrue : List Bool → Type 0
+AllTrue [] = Unit {0}
+AllTrue (b ∷ bs) = (b ≡ true) × AllTrue bs
+
+pub all-true : (bs : List Bool) → allHold bs ≡ true → AllTrue bs
+unfolding allHold
+all-true [] e = tt
+all-true (b ∷ bs) e = let both = and-eq-true-iff b (allHold bs) .0 e in (both .0, all-true bs (both .1))
+
+pub true-all : (bs : List Bool) → AllTrue bs → allHold bs ≡ true
+unfolding allHold
+true-all [] all = refl
+true-all (b ∷ bs) all = and-eq-true-iff b (allHold bs) .1 (all .0, true-all bs (all .1))
+
+-- ---- one check
+
+pub first-here : (c : Check) (cs : List Check) → c .met ≡ true → firstMet (c ∷ cs) ≡ c .number
+unfolding firstMet
+first-here c cs e = rw e
+
+pub first-later : (c : Check) (cs : List Check) → c .met ≡ false → firstMet (c ∷ cs) ≡ firstMet cs
+unfolding firstMet
+first-later c cs e = rw e
+
+pub first-zero : (c : Check) (cs : List Check) → 0 < c .number → firstMet (c ∷ cs) ≡ 0 → (c .met ≡ false) × (firstMet cs ≡ 0)
+unfolding firstMet
+first-zero c cs h e = go (c .met) refl
+  where
+    go : (b : Bool) → c .met ≡ b → (c .met ≡ false) × (firstMet cs ≡ 0)
+    go true q = absurd (let z : c .number ≡ 0 = rw q at e in omega arith)
+    go false q = (q, rw q at e)
+
+-- ---- numbers of checks
+
+-- each number is from 1 to most
+abbrev pub Numbered : ℕ → List Check → Type 0
+Numbered most [] = Unit {0}
+Numbered most (c ∷ cs) = (0 < c .number) × (c .number ≤ most) × Numbered most cs
+
+pub numbered-append : (most : ℕ) (a b : List Check) → Numbered most a → Numbered most b → Numbered most (a ++ b)
+numbered-append most [] b p q = q
+numbered-append most (c ∷ a) b p q = (p .0, p .1, numbered-append most a b (p .2) q)
+
+pub first-most : (most : ℕ) (cs : List Check) → Numbered most cs → firstMet cs ≤ most
+unfolding firstMet
+first-most most [] each = omega arith
+first-most most (c ∷ cs) each = go (c .met) (first-most most cs (each .2))
+  where
+    go : (b : Bool) → firstMet cs ≤ most → cond b (c .number) (firstMet cs) ≤ most
+    go true later = each .1
+    go false later = later
+
+-- ---- no check is met
+
+abbrev pub NoneMet : List Check → Type 0
+NoneMet [] = Unit {0}
+NoneMet (c ∷ cs) = (c .met ≡ false) × NoneMet cs
+
+pub none-append : (a b : List Check) → NoneMet a → NoneMet b → NoneMet (a ++ b)
+none-append [] b p q = q
+none-append (c ∷ a) b p q = (p .0, none-append a b (p .1) q)
+
+pub none-front : (a b : List Check) → NoneMet (a ++ b) → NoneMet a
+none-front [] b p = tt
+none-front (c ∷ a) b p = (p .0, none-front a b (p .1))
+
+pub none-back : (a b : List Check) → NoneMet (a ++ b) → NoneMet b
+none-back [] b p = p
+none-back (c ∷ a) b p = none-back a b (p .1)
+
+pub none-met : (most : ℕ) (cs : List Check) → Numbered most cs → firstMet cs ≡ 0 → NoneMet cs
+none-met most [] each e = tt
+none-met most (c ∷ cs) each e = let parts = first-zero c cs (each .0) e in (parts .0, none-met most cs (each .2) (parts .1))
+
+-- past checks that are not met
+pub first-past : (a b : List Check) → NoneMet a → firstMet (a ++ b) ≡ firstMet b
+first-past [] b none = refl
+first-past (c ∷ a) b none = first-later c (a ++ b) (none .0) ∙ first-past a b (none .1)
+
+pub first-none : (cs : List Check) → NoneMet cs → firstMet cs ≡ 0
+unfolding firstMet
+first-none [] none = refl
+first-none (c ∷ cs) none = first-later c cs (none .0) ∙ first-none cs (none .1)
+
+refused-first : (n m : ℕ) → 0 < n → firstRefusal n m ≡ n
+unfolding firstRefusal
+refused-first zero m h = absurd (omega arith)
+refused-first (suc n) m h = refl
+
+-- the answer of the first list, or where that meets none, of the second
+pub first-append : (most : ℕ) (a b : List Check) → Numbered most a → firstMet (a ++ b) ≡ firstRefusal (firstMet a) (firstMet b)
+unfolding firstMet firstRefusal
+first-append most [] b each = refl
+first-append most (c ∷ a) b each = go (c .met) (first-append most a b (each .2))
+  where
+    go : (m : Bool) → firstMet (a ++ b) ≡ firstRefusal (firstMet a) (firstMet b) → cond m (c .number) (firstMet (a ++ b)) ≡ firstRefusal (cond m (c .number) (firstMet a)) (firstMet b)
+    go true later = sym (refused-first (c .number) (firstMet b) (each .0))
+    go false later = later

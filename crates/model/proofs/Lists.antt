@@ -1,0 +1,25 @@
+-- Lists made of a function.
+use mathlib.Core.Path.{_≡_, refl}
+use mathlib.Core.List.{List, [], _∷_, flatMap}
+use Prim.Native.Nat.{ℕ, zero, suc, _*_, _<_}
+use native.Mathlib.Omega.{arith}
+use lib.ListN.{length, getD, length-append}
+use Rattle.model.specs.Basics.{eight}
+
+-- f 0, .., f (n − 1): at 8 this is eight f
+abbrev pub listTo {ℓ} : {A : Type ℓ} → (ℕ → A) → ℕ → List A
+listTo f zero = []
+listTo f (suc n) = f 0 ∷ listTo (λ i. f (suc i)) n
+
+pub getD-listTo {ℓ} : {A : Type ℓ} (f : ℕ → A) (n i : ℕ) (d : A) → i < n → getD (listTo f n) i d ≡ f i
+getD-listTo f zero i d h = absurd (omega arith)
+getD-listTo f (suc n) zero d h = refl
+getD-listTo f (suc n) (suc i) d h = getD-listTo (λ i. f (suc i)) n i d (omega arith)
+
+pub getD-eight {ℓ} : {A : Type ℓ} (f : ℕ → A) (i : ℕ) (d : A) → i < 8 → getD (eight f) i d ≡ f i
+getD-eight f i d h = getD-listTo f 8 i d h
+
+pub length-flatMap {ℓ κ} : {A : Type ℓ} {B : Type κ} (f : A → List B) (k : ℕ) → ((x : A) → length (f x) ≡ k) → (l : List A) → length (flatMap f l) ≡ k * length l
+unfolding flatMap
+length-flatMap f k each [] = omega arith
+length-flatMap f k each (x ∷ l) = rw length-append (omega (arith, each x, length-flatMap f k each l))

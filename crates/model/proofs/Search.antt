@@ -1,0 +1,102 @@
+-- Searches: the first number that passes a test, the greatest of a function, and climbing to a fixed point.
+use mathlib.Core.Path.{_≡_, refl, sym, ap}
+use mathlib.Core.Logic.{_⊎_, inl, inr}
+use mathlib.Core.Bool.{Bool, true, false, cond}
+use mathlib.Core.Option.{Option, none, some}
+use Prim.Native.Nat.{ℕ, zero, suc, _+_, _-_, _≤_, _<_, max}
+use native.Mathlib.Nat.{le-refl, eq-or-lt-of-le}
+use native.Mathlib.Decide.{decLe}
+use native.Mathlib.Omega.{arith}
+use Rattle.model.specs.Basics.{greatestTo, firstFrom}
+
+-- ---- the first
+pub record IsFirst (p : ℕ → Bool) (n a w : ℕ) : Type 0 where
+  pub from : a ≤ w
+  pub below : w < a + n
+  pub holds : p w ≡ true
+  pub before : (k : ℕ) → a ≤ k → k < w → p k ≡ false
+
+pub first-some : (p : ℕ → Bool) (n a w : ℕ) → firstFrom p n a ≡ some w → IsFirst p n a w
+unfolding firstFrom
+first-some p zero a w e = absurd (let z : _≡_ {A = ℕ} 0 1 = cc in omega arith)
+first-some p (suc n) a w e = go (p a) refl (first-some p n (suc a) w)
+  where
+    go : (b : Bool) → p a ≡ b → (firstFrom p n (suc a) ≡ some w → IsFirst p n (suc a) w) → IsFirst p (suc n) a w
+    go true q ih =
+        let z : a ≡ w = let y : some a ≡ some w = rw q at e in cc in
+        record { from = omega arith; below = omega arith; holds = rw (← z) q; before = λ k l m. absurd (omega arith) }
+    go false q ih =
+        let f : IsFirst p n (suc a) w = ih (rw q at e) in
+        record {
+          from = omega arith;
+          below = omega arith;
+          holds = f .holds;
+          before = λ k l m. elim (eq-or-lt-of-le l) [ inl x ↦ rw (← x) q | inr x ↦ f .before k x m ];
+        }
+
+pub first-none : (p : ℕ → Bool) (n a : ℕ) → firstFrom p n a ≡ none → (k : ℕ) → a ≤ k → k < a + n → p k ≡ false
+unfolding firstFrom
+first-none p zero a e k l m = absurd (omega arith)
+first-none p (suc n) a e k l m = go (p a) refl (first-none p n (suc a))
+  where
+    go : (b : Bool) → p a ≡ b → (firstFrom p n (suc a) ≡ none → (j : ℕ) → suc a ≤ j → j < suc a + n → p j ≡ false) → p k ≡ false
+    go true q ih = absurd (let z : _≡_ {A = ℕ} 0 1 = let y : _≡_ {A = Option ℕ} (some a) none = rw q at e in cc in omega arith)
+    go false q ih = elim (eq-or-lt-of-le l) [ inl x ↦ rw (← x) q | inr x ↦ ih (rw q at e) k x (omega arith) ]
+
+-- the other way: what is first is what the search finds
+pub is-first : (p : ℕ → Bool) (n a w : ℕ) → IsFirst p n a w → firstFrom p n a ≡ some w
+unfolding firstFrom
+is-first p zero a w f = absurd (omega arith)
+is-first p (suc n) a w f = elim (eq-or-lt-of-le (f .from)) [ inl x ↦ here x | inr x ↦ there x (is-first p n (suc a) w) ]
+  where
+    here : a ≡ w → firstFrom p (suc n) a ≡ some w
+    here x = let t : p a ≡ true = rw x (f .holds) in rw (t, x)
+
+    there : a < w → (IsFirst p n (suc a) w → firstFrom p n (suc a) ≡ some w) → firstFrom p (suc n) a ≡ some w
+    there x ih =
+        rw (f .before a (le-refl a) x)
+        (ih (record { from = x; below = omega arith; holds = f .holds; before = λ k l m. f .before k (omega arith) m }))
+
+pub is-none : (p : ℕ → Bool) (n a : ℕ) → ((k : ℕ) → a ≤ k → k < a + n → p k ≡ false) → firstFrom p n a ≡ none
+unfolding firstFrom
+is-none p zero a h = refl
+is-none p (suc n) a h = rw (h a (le-refl a) (omega arith)) (is-none p n (suc a) (λ k l m. h k (omega arith) (omega arith)))
+
+-- ---- the greatest
+pub greatestTo-ge : (g : ℕ → ℕ) (n k : ℕ) → k < n → g k ≤ greatestTo g n
+unfolding greatestTo
+greatestTo-ge g zero k h = absurd (omega arith)
+greatestTo-ge g (suc n) k h = elim (eq-or-lt-of-le h) [ inl x ↦ same (omega arith) | inr x ↦ omega (arith, greatestTo-ge g n k (omega arith)) ]
+  where
+    same : k ≡ n → g k ≤ max (greatestTo g n) (g n)
+    same x = rw x (omega arith)
+
+pub record Attained (g : ℕ → ℕ) (n : ℕ) : Type 0 where
+  pub at : ℕ
+  pub at-lt : at < n
+  pub at-is : g at ≡ greatestTo g n
+
+pub greatestTo-attained : (g : ℕ → ℕ) (n : ℕ) → 0 < n → Attained g n
+unfolding greatestTo
+greatestTo-attained g zero h = absurd (omega arith)
+greatestTo-attained g (suc zero) h = record { at = 0; at-lt = h; at-is = omega arith }
+greatestTo-attained g (suc (suc n)) h = go (greatestTo-attained g (suc n) (omega arith)) (decLe (greatestTo g (suc n)) (g (suc n)))
+  where
+    go : Attained g (suc n) → Dec (greatestTo g (suc n) ≤ g (suc n)) → Attained g (suc (suc n))
+    go a (yes l) = record { at = suc n; at-lt = omega arith; at-is = omega arith }
+    go a (no l) = record { at = a .at; at-lt = omega arith; at-is = omega arith }
+
+-- ---- climbing: from w to b + f (w − 1), which never passes a w with b + f (w − 1) ≤ w
+unfoldable pub climb : (ℕ → ℕ) → ℕ → ℕ → ℕ → ℕ
+climb f b zero w = w
+climb f b (suc n) w = climb f b n (max w (b + f (w - 1)))
+
+abbrev pub Grows : (ℕ → ℕ) → Type 0
+Grows f = (x y : ℕ) → x ≤ y → f x ≤ f y
+
+pub climb-below : (f : ℕ → ℕ) → Grows f → (b n w k : ℕ) → b + f (k - 1) ≤ k → w ≤ k → climb f b n w ≤ k
+unfolding climb
+climb-below f g b zero w k h l = l
+climb-below f g b (suc n) w k h l =
+    climb-below f g b n (max w (b + f (w - 1))) k h
+    (omega (arith, g (w - 1) (k - 1) (omega arith)))

@@ -1,0 +1,215 @@
+-- The ten marked examples of the paper, a to j, and ours, k to u, as one list.
+use mathlib.Core.Path.{_≡_}
+use mathlib.Core.List.{List, [], _∷_, _++_, map, reverse}
+use Prim.Native.Nat.{ℕ, zero, suc, _+_, _-_}
+use Prim.Native.String.{String}
+use lib.ListN.{length, replicate}
+use Rattle.model.specs.Basics.{eight, Each}
+use Rattle.model.specs.Link.{VirtualLink, bagOf}
+use Rattle.model.specs.Table.{Table}
+use Rattle.model.specs.TableFile.{tableBytes}
+use Rattle.model.specs.Bounds.{boundsRefusal, hold, bound}
+use Rattle.model.specs.Report.{Report, wait, frame, Answer, Call}
+use Rattle.model.specs.Sheet.{text, sheet}
+use Rattle.model.specs.Run.{Entry, run}
+
+-- the answer of a call, and the list as it left it
+pub record Outcome : Type 0 where
+  pub answer : Answer
+  pub list : List ℕ
+
+pub data Example : Type 0 where
+  -- a table with its bound and hold of a priority; or its hold alone
+  gives-bound : Table → ℕ → ℕ → ℕ → Example
+  gives-hold : Table → ℕ → ℕ → Example
+  -- a table with the number under which its bounds are refused
+  lacks-bounds : Table → ℕ → Example
+  -- a table and calls in order, with what comes of each
+  gives-answers : Table → List Call → List Outcome → Example
+  -- the BAG of codes 0 to 7
+  gives-bags : List ℕ → Example
+  -- a table with its printed sheet
+  gives-sheet : Table → String → Example
+
+unfoldable pub outcomes : Table → List Call → List Outcome
+outcomes t calls = reverse (map (λ (e : Entry). record { answer = e .answer; list = e .list }) (run t (reverse calls) .log))
+
+unfoldable pub Correct : Example → Type 0
+Correct (gives-bound t p b h) = (hold t p ≡ h) × (bound t p ≡ b)
+Correct (gives-hold t p h) = hold t p ≡ h
+Correct (lacks-bounds t n) = boundsRefusal t ≡ n
+Correct (gives-answers t calls expected) = outcomes t calls ≡ expected
+Correct (gives-bags bags) = eight bagOf ≡ bags
+Correct (gives-sheet t printed) = sheet (tableBytes t) ≡ text printed
+
+-- ---- shorthand: number, line, priority, greatest length; "All codes and jitter 0 unless named"
+abbrev pub plain : ℕ → ℕ → ℕ → ℕ → VirtualLink
+plain number line priority greatest = record { number = number; line = line; priority = priority; code = 0; least = 84; greatest = greatest; jitter = 0 }
+
+abbrev pub tableOf : ℕ → List VirtualLink → List ℕ → Table
+tableOf lines links sizes = record { lines = lines; links = links; sizes = sizes ++ replicate (8 - length sizes) 0 }
+
+-- a report that is lent nine numbers, all 7, and what becomes of them: the departures' numbers first
+abbrev pub lent : Report → Call
+lent r = record { report = r; list = replicate 9 7 }
+
+abbrev pub gives : ℕ → ℕ → ℕ → List ℕ → Outcome
+gives verdict frames bytes numbers =
+    record { answer = record { refused = 0; verdict = verdict; frames = frames; bytes = bytes }; list = numbers ++ replicate (9 - length numbers) 7 }
+
+abbrev pub refuses : ℕ → Outcome
+refuses n = record { answer = record { refused = n; verdict = 0; frames = 0; bytes = 0 }; list = replicate 9 7 }
+
+-- "table E (two lines; link 1: line 0, priority 0, lengths 84 to 500; link 2: line 1, priority 1, lengths 84 to 1,000; ..)"
+abbrev pub tableE : Table
+tableE = tableOf 2 (plain 1 0 0 500 ∷ plain 2 1 1 1_000 ∷ []) (2_000 ∷ 2_000 ∷ [])
+
+-- "a, b. E: bounds 500 and 1,000; holds 1,499 and 1,500"
+abbrev pub a : Example
+a = gives-bound tableE 0 500 1_499
+
+abbrev pub b : Example
+b = gives-bound tableE 1 1_000 1_500
+
+-- "c. E: link 2 arrives at 1,000 and link 1 at 1,001, at greatest length; link 2 is freed at 2,000, link 1 at 2,500"
+abbrev pub c : Example
+c =
+    gives-answers tableE (lent (frame 1_000 1 2 1_000) ∷ lent (frame 1_001 0 1 500) ∷ lent (wait 2_000) ∷ lent (wait 2_500) ∷ [])
+    (gives 0 0 0 [] ∷ gives 0 0 0 [] ∷ gives 0 1 1_000 (2 ∷ 1_000 ∷ 2_000 ∷ []) ∷ gives 0 1 500 (1 ∷ 500 ∷ 2_500 ∷ []) ∷ [])
+
+-- "d. Both at 1,000: link 2 is freed at 2,500, link 1 at 1,500"
+abbrev pub d : Example
+d =
+    gives-answers tableE (lent (frame 1_000 1 2 1_000) ∷ lent (frame 1_000 0 1 500) ∷ lent (wait 1_500) ∷ lent (wait 2_500) ∷ [])
+    (gives 0 0 0 [] ∷ gives 0 0 0 [] ∷ gives 0 1 500 (1 ∷ 500 ∷ 1_500 ∷ []) ∷ gives 0 1 1_000 (2 ∷ 1_000 ∷ 2_500 ∷ []) ∷ [])
+
+-- "e, f. E: link 1 stored at 1,001; its next at 13,500 is policed, at 13,501 instead it passes"
+abbrev pub e : Example
+e =
+    gives-answers tableE (lent (frame 1_001 0 1 500) ∷ lent (frame 13_500 0 1 500) ∷ [])
+    (gives 0 0 0 [] ∷ gives 2 1 500 (1 ∷ 500 ∷ 1_501 ∷ []) ∷ [])
+
+abbrev pub f : Example
+f =
+    gives-answers tableE (lent (frame 1_001 0 1 500) ∷ lent (frame 13_501 0 1 500) ∷ [])
+    (gives 0 0 0 [] ∷ gives 0 1 500 (1 ∷ 500 ∷ 1_501 ∷ []) ∷ [])
+
+-- "g. Three links of 200, priority 0, one line: bound 399, hold 600. h. On three lines: bound 600"
+abbrev pub g : Example
+g = gives-bound (tableOf 1 (plain 0 0 0 200 ∷ plain 1 0 0 200 ∷ plain 2 0 0 200 ∷ []) []) 0 399 600
+
+abbrev pub threeLines : List ℕ → Table
+threeLines sizes = tableOf 3 (plain 0 0 0 200 ∷ plain 1 1 0 200 ∷ plain 2 2 0 200 ∷ []) sizes
+
+abbrev pub h : Example
+h = gives-bound (threeLines []) 0 600 600
+
+-- "i, j. One line, priority 0, code 7: 42 links of 1,538 and one of 940 give hold 65,536; 941 instead gives 8"
+abbrev pub slow : ℕ → ℕ → VirtualLink
+slow number greatest = record { number = number; line = 0; priority = 0; code = 7; least = 84; greatest = greatest; jitter = 0 }
+
+unfoldable pub slowLinks : ℕ → List VirtualLink
+slowLinks zero = []
+slowLinks (suc n) = slowLinks n ++ (slow n 1_538 ∷ [])
+
+abbrev pub oneBusyLine : ℕ → Table
+oneBusyLine greatest = tableOf 1 (slowLinks 42 ++ (slow 42 greatest ∷ [])) []
+
+abbrev pub i : Example
+i = gives-hold (oneBusyLine 940) 0 65_536
+
+abbrev pub j : Example
+j = lacks-bounds (oneBusyLine 941) 8
+
+-- k. one link of lengths 84 to 100 with jitter 12,400: a second frame may follow 100 ticks after the first
+abbrev pub k : Example
+k =
+    gives-bound
+    (tableOf 1 (record { number = 0; line = 0; priority = 0; code = 0; least = 84; greatest = 100; jitter = 12_400 } ∷ []) [])
+    0 100 100
+
+-- l. one line: one link of 1,000 at priority 0, eight of 200 at priority 1
+abbrev pub l : Example
+l =
+    gives-bound
+    (tableOf 1
+    (plain 0 0 0 1_000
+    ∷ plain 1 0 1 200
+    ∷ plain 2 0 1 200
+    ∷ plain 3 0 1 200
+    ∷ plain 4 0 1 200
+    ∷ plain 5 0 1 200
+    ∷ plain 6 0 1 200
+    ∷ plain 7 0 1 200
+    ∷ plain 8 0 1 200
+    ∷ [])
+    [])
+    1 1_199 2_600
+
+-- m. size 500: the third of three frames of 200 is dropped while the first is leaving. n. Its link, charged for it, is then policed
+abbrev pub m : Example
+m =
+    gives-answers (threeLines (500 ∷ [])) (lent (frame 1_000 0 0 200) ∷ lent (frame 1_100 1 1 200) ∷ lent (frame 1_150 2 2 200) ∷ [])
+    (gives 0 0 0 [] ∷ gives 0 0 0 [] ∷ gives 3 0 0 [] ∷ [])
+
+abbrev pub n : Example
+n =
+    gives-answers (threeLines (500 ∷ []))
+    (lent (frame 1_000 0 0 200) ∷ lent (frame 1_100 1 1 200) ∷ lent (frame 1_150 2 2 200) ∷ lent (frame 2_000 2 2 200) ∷ [])
+    (gives 0 0 0 [] ∷ gives 0 0 0 [] ∷ gives 3 0 0 [] ∷ gives 2 2 400 (0 ∷ 200 ∷ 1_200 ∷ 1 ∷ 200 ∷ 1_400 ∷ []) ∷ [])
+
+-- o. link 1 stored at 1,001, policed at 13,500 and not charged for it, so stored at 14,000
+abbrev pub o : Example
+o =
+    gives-answers tableE (lent (frame 1_001 0 1 500) ∷ lent (frame 13_500 0 1 500) ∷ lent (frame 14_000 0 1 500) ∷ [])
+    (gives 0 0 0 [] ∷ gives 2 1 500 (1 ∷ 500 ∷ 1_501 ∷ []) ∷ gives 0 0 0 [] ∷ [])
+
+-- p. a filtered frame of 500 on line 0 at 1,000 takes its line until then: link 1 with 500 at 1,499 is refused
+abbrev pub p : Example
+p =
+    gives-answers tableE (lent (frame 1_000 0 9 500) ∷ lent (frame 1_499 0 1 500) ∷ [])
+    (gives 1 0 0 [] ∷ refuses 15 ∷ [])
+
+-- q. a frame below its link's least, one above its greatest, one on another line, one of an unknown number
+abbrev pub q : Example
+q =
+    gives-answers
+    (tableOf 2 (record { number = 1; line = 0; priority = 0; code = 0; least = 100; greatest = 500; jitter = 0 } ∷ []) (2_000 ∷ []))
+    (lent (frame 1_000 0 1 99) ∷ lent (frame 2_000 0 1 501) ∷ lent (frame 3_000 1 1 200) ∷ lent (frame 4_000 0 9 200) ∷ lent (frame 5_000 0 1 100) ∷ [])
+    (gives 1 0 0 [] ∷ gives 1 0 0 [] ∷ gives 1 0 0 [] ∷ gives 1 0 0 [] ∷ gives 0 0 0 [] ∷ [])
+
+-- r. example d, then a wait at 3,000: 2 frames, 1,500 bytes
+abbrev pub r : Example
+r =
+    gives-answers tableE (lent (frame 1_000 1 2 1_000) ∷ lent (frame 1_000 0 1 500) ∷ lent (wait 3_000) ∷ [])
+    (gives 0 0 0 [] ∷ gives 0 0 0 [] ∷ gives 0 2 1_500 (1 ∷ 500 ∷ 1_500 ∷ 2 ∷ 1_000 ∷ 2_500 ∷ []) ∷ [])
+
+-- s. a report that meets 13, 14 and 15, and one that meets 15 and 16
+abbrev pub s : Example
+s =
+    gives-answers tableE
+    (lent (frame 1_000 0 1 500) ∷ lent (frame 1_000 2 1 83) ∷ record { report = frame 1_001 0 1 500; list = [] } ∷ [])
+    (gives 0 0 0 [] ∷ refuses 13 ∷ record { answer = refuses 15 .answer; list = [] } ∷ [])
+
+-- t. "12,500; 25,000; 50,000; 100,000; 200,000; 400,000; 800,000; 1,600,000 ticks"
+abbrev pub t : Example
+t = gives-bags (12_500 ∷ 25_000 ∷ 50_000 ∷ 100_000 ∷ 200_000 ∷ 400_000 ∷ 800_000 ∷ 1_600_000 ∷ [])
+
+-- u. links 2 and 3 (priority 1) at 1,000, link 1 (priority 0) at 1,500, as link 2 is freed: link 1 goes first
+abbrev pub u : Example
+u =
+    gives-answers (tableOf 3 (plain 1 0 0 500 ∷ plain 2 1 1 500 ∷ plain 3 2 1 500 ∷ []) (2_000 ∷ 2_000 ∷ []))
+    (lent (frame 1_000 1 2 500) ∷ lent (frame 1_000 2 3 500) ∷ lent (frame 1_500 0 1 500) ∷ lent (wait 3_000) ∷ [])
+    (gives 0 0 0 [] ∷ gives 0 0 0 [] ∷ gives 0 1 500 (2 ∷ 500 ∷ 1_500 ∷ []) ∷ gives 0 2 1_000 (1 ∷ 500 ∷ 2_000 ∷ 3 ∷ 500 ∷ 2_500 ∷ []) ∷ [])
+
+-- the sheet that the paper prints for table E
+abbrev pub sheetE : Example
+sheetE =
+    gives-sheet tableE
+    "priority bound hold size spare fill\n0 500 1499 2000 1500 250\n1 1000 1500 2000 1000 500\n2 0 1500 0 0 -\n3 0 1500 0 0 -\n4 0 1500 0 0 -\n5 0 1500 0 0 -\n6 0 1500 0 0 -\n7 0 1500 0 0 -\n"
+
+abbrev pub examples : List Example
+examples = a ∷ b ∷ c ∷ d ∷ e ∷ f ∷ g ∷ h ∷ i ∷ j ∷ k ∷ l ∷ m ∷ n ∷ o ∷ p ∷ q ∷ r ∷ s ∷ t ∷ u ∷ sheetE ∷ []
+
+abbrev pub ExamplesCorrect : Type 0
+ExamplesCorrect = Each Correct examples

@@ -1,0 +1,97 @@
+-- The theorems, each as a statement. proofs/Theorems.antt proves each under the same name in lower case.
+use mathlib.Core.Path.{_≡_}
+use mathlib.Core.Logic.{_⊎_}
+use mathlib.Core.Bool.{Bool, true, false, cond, not}
+use mathlib.Core.Option.{Option, none, some}
+use mathlib.Core.List.{List, [], _∷_, _++_}
+use Prim.Native.Nat.{ℕ, zero, suc, _+_, _-_, _≤_, _<_}
+use lib.Dec.{eqb}
+use lib.ListN.{length, getD}
+use Rattle.model.specs.Link.{VirtualLink, bag, linkAt, anyOf}
+use Rattle.model.specs.Table.{Table, tableRefusal}
+use Rattle.model.specs.Arrival.{arrivalCurve}
+use Rattle.model.specs.Bounds.{ofPriority, upArrivals, blocking, holdOf, backlog, boundsRefusal, hold, bound}
+use Rattle.model.specs.Machine.{Frame, Scheduler, Departure, advance, framesHeld}
+use Rattle.model.specs.Report.{Port, fit, Call}
+use Rattle.model.specs.Run.{Entry, run, accepted, passedBy, departuresBy, without, heldFrames, hasPriority, ticksOf, KeepBagAndJitter, Always, Demand3}
+
+-- Demand 3, "for every list of frame and wait reports, refused ones among them, from a fresh port whose table has bounds"
+abbrev pub DemandThree : Type 0
+DemandThree = (t : Table) → boundsRefusal t ≡ 0 → (calls : List Call) → Demand3 t (run t calls)
+
+-- from a fresh port no report is refused with 10, whatever the list
+abbrev pub NeverUnfit : Type 0
+NeverUnfit = (t : Table) → tableRefusal t ≡ 0 → (calls : List Call) → (fit t (run t calls .port) ≡ true) × Always (λ e log. e .answer .refused ≡ 10 → ⊥) (run t calls .log)
+
+-- a weight on lengths: it grows with the length and is never more
+pub record Weight (weight : ℕ → ℕ) : Type 0 where
+  pub grows : (a b : ℕ) → a ≤ b → weight a ≤ weight b
+  pub below : (a : ℕ) → weight a ≤ a
+
+-- A is monotone in w, for any set of links and any weight
+abbrev pub CurveGrows : Type 0
+CurveGrows = (weight : ℕ → ℕ) (set : VirtualLink → Bool) (lines : ℕ) (links : List VirtualLink) (w w' : ℕ) → w ≤ w'
+    → arrivalCurve weight set lines links w ≤ arrivalCurve weight set lines links w'
+
+-- w is "the smallest w from 1 to 65,536 with b + A_up(w − 1) ≤ w"
+pub record IsHold (t : Table) (p w : ℕ) : Type 0 where
+  pub least-is : 1 ≤ w
+  pub most-is : w ≤ 65_536
+  pub holds : blocking t p + upArrivals t p (w - 1) ≤ w
+  pub smallest : (k : ℕ) → 1 ≤ k → k < w → k < blocking t p + upArrivals t p (k - 1)
+
+-- holdOf gives it, or there is none
+abbrev pub HoldIsSmallest : Type 0
+HoldIsSmallest = (t : Table) (p : ℕ) → ((w : ℕ) → holdOf t p ≡ some w → IsHold t p w) × (holdOf t p ≡ none → (w : ℕ) → 1 ≤ w → w ≤ 65_536 → w < blocking t p + upArrivals t p (w - 1))
+
+-- of a table that has bounds: the bound is attained and is the greatest, and the difference in it is never truncated
+pub record BoundFacts (t : Table) (p : ℕ) : Type 0 where
+  pub is-hold : IsHold t p (hold t p)
+  -- w is where it is attained
+  pub attained : anyOf (ofPriority p) (t .links) ≡ true → (w : ℕ) × (w < hold t p) × (backlog t p w ≡ bound t p)
+  pub greatest : anyOf (ofPriority p) (t .links) ≡ true → (w : ℕ) → w < hold t p → backlog t p w ≤ bound t p
+  pub unused : anyOf (ofPriority p) (t .links) ≡ false → bound t p ≡ 0
+  pub untruncated : (w : ℕ) → w < hold t p → w - blocking t p ≤ upArrivals t p w
+  pub small : (w : ℕ) → w < hold t p → upArrivals t p w ≤ 65_536
+
+abbrev pub BoundIsGreatest : Type 0
+BoundIsGreatest = (t : Table) → boundsRefusal t ≡ 0 → (p : ℕ) → p < 8 → BoundFacts t p
+
+-- the frames freed and those left are the frames held before: an advance frees no more than are held
+abbrev pub NoneAppears : Type 0
+NoneAppears = (t : Table) → tableRefusal t ≡ 0 → (s : Port) → fit t s ≡ true → length (s .scheduler .queues) ≡ 8 → (time : ℕ)
+    → length (advance time (s .scheduler) .departures) + framesHeld (advance time (s .scheduler) .scheduler .queues) ≡ framesHeld (s .scheduler .queues)
+
+-- ---- for the next switch on the way
+
+-- the oldest held frame of a number
+unfoldable pub oldest : ℕ → List Frame → Option Frame
+oldest n [] = none
+oldest n (f ∷ frames) = cond (eqb (f .number) n) (some f) (oldest n frames)
+
+-- departures in order from the held frames: each is of the oldest of its number, stored at t, with t + length ≤ freed ≤ t + hold
+pub data Leaving (t : Table) : List Frame → List Departure → Type 0 where
+  over : {frames : List Frame} → Leaving t frames []
+  next : {frames : List Frame} {d : Departure} {ds : List Departure} (p : ℕ) (f : Frame) → hasPriority t p f ≡ true → oldest (d .number) frames ≡ some f → d .length ≡ f .length
+      → f .arrival + f .length ≤ d .freed → d .freed ≤ f .arrival + hold t p → Leaving t (without (d .number) frames) ds → Leaving t frames (d ∷ ds)
+
+abbrev pub DeparturesInTime : Type 0
+DeparturesInTime = (t : Table) → boundsRefusal t ≡ 0 → (calls : List Call) → Always (λ e log. Leaving t (heldFrames log) (departuresBy e)) (run t calls .log)
+
+-- all departures of a log, in order of leaving
+unfoldable pub allDepartures : List Entry → List Departure
+allDepartures [] = []
+allDepartures (e ∷ log) = allDepartures log ++ departuresBy e
+
+-- consecutive departures are a length apart; last is the tick of the one before
+pub data Spaced : ℕ → List Departure → Type 0 where
+  over : {last : ℕ} → Spaced last []
+  next : {last : ℕ} {d : Departure} {ds : List Departure} → last + d .length ≤ d .freed → Spaced (d .freed) ds → Spaced last (d ∷ ds)
+
+abbrev pub DeparturesSpaced : Type 0
+DeparturesSpaced = (t : Table) → tableRefusal t ≡ 0 → (calls : List Call) → Spaced 0 (allDepartures (run t calls .log))
+
+-- the passed frames of a link keep BAG and jitter, whatever the link did
+abbrev pub PassedKeep : Type 0
+PassedKeep = (t : Table) → tableRefusal t ≡ 0 → (calls : List Call) → (i : ℕ) → i < length (t .links)
+    → KeepBagAndJitter (linkAt (t .links) i) (ticksOf passedBy (linkAt (t .links) i .number) (run t calls .log))
