@@ -1,10 +1,12 @@
 -- The first check of a list that is met, and lists of conditions that all hold.
 use mathlib.Core.Path.{_≡_, refl, sym, _∙_}
+use mathlib.Core.Logic.{_≢_, _⊎_, inl, inr}
 use mathlib.Core.Bool.{Bool, true, false, cond, and-eq-true-iff}
 use mathlib.Core.List.{List, [], _∷_, _++_}
 use Prim.Native.Nat.{ℕ, zero, suc, _≤_, _<_}
+use native.Mathlib.Nat.{le-refl, eq-or-lt-of-le}
 use native.Mathlib.Omega.{arith}
-use Rattle.model.specs.Basics.{allHold, Check, firstMet, firstRefusal}
+use Rattle.model.specs.Basics.{allTo, allHold, Check, firstMet, firstRefusal}
 
 -- ---- conditions
 
@@ -21,6 +23,22 @@ pub true-all : (bs : List Bool) → AllTrue bs → allHold bs ≡ true
 unfolding allHold
 true-all [] all = refl
 true-all (b ∷ bs) all = and-eq-true-iff b (allHold bs) .1 (all .0, true-all bs (all .1))
+
+-- ---- a test that holds of 0, .., n − 1
+
+pub all-to : (test : ℕ → Bool) (n : ℕ) → allTo test n ≡ true → (k : ℕ) → k < n → test k ≡ true
+unfolding allTo
+all-to test zero e k l = absurd (omega arith)
+all-to test (suc n) e k l = go (and-eq-true-iff (allTo test n) (test n) .0 e) (eq-or-lt-of-le l) (λ x. all-to test n x k)
+  where
+    go : (allTo test n ≡ true) × (test n ≡ true) → (suc k ≡ suc n) ⊎ (suc k < suc n) → (allTo test n ≡ true → k < n → test k ≡ true) → test k ≡ true
+    go both (inl x) ih = let y : k ≡ n = omega arith in rw y (both .1)
+    go both (inr x) ih = ih (both .0) (omega arith)
+
+pub to-all : (test : ℕ → Bool) (n : ℕ) → ((k : ℕ) → k < n → test k ≡ true) → allTo test n ≡ true
+unfolding allTo
+to-all test zero h = refl
+to-all test (suc n) h = and-eq-true-iff (allTo test n) (test n) .1 (to-all test n (λ k l. h k (omega arith)), h n (le-refl (suc n)))
 
 -- ---- one check
 
@@ -59,6 +77,20 @@ first-most most (c ∷ cs) each = go (c .met) (first-most most cs (each .2))
     go : (b : Bool) → firstMet cs ≤ most → cond b (c .number) (firstMet cs) ≤ most
     go true later = each .1
     go false later = later
+
+-- no check has that number
+abbrev pub Apart : ℕ → List Check → Type 0
+Apart n [] = Unit {0}
+Apart n (c ∷ cs) = (c .number ≢ n) × Apart n cs
+
+pub first-apart : (n : ℕ) (cs : List Check) → 0 < n → Apart n cs → firstMet cs ≡ n → ⊥
+unfolding firstMet
+first-apart n [] h each e = omega arith
+first-apart n (c ∷ cs) h each e = go (c .met) e (first-apart n cs h (each .1))
+  where
+    go : (b : Bool) → cond b (c .number) (firstMet cs) ≡ n → (firstMet cs ≡ n → ⊥) → ⊥
+    go true x later = each .0 x
+    go false x later = later x
 
 -- ---- no check is met
 

@@ -1,5 +1,5 @@
 -- The hold is the smallest, or there is none; by climbing; and of a table that has bounds each priority has one.
-use mathlib.Core.Path.{_≡_, refl, ap}
+use mathlib.Core.Path.{_≡_, refl, sym, ap, _∙_}
 use mathlib.Core.Bool.{Bool, true, false, cond, _&&_, not}
 use mathlib.Core.Option.{Option, none, some}
 use mathlib.Core.List.{List, [], _∷_, _++_}
@@ -9,11 +9,13 @@ use native.Mathlib.Decide.{decLe}
 use native.Mathlib.Omega.{arith}
 use lib.Dec.{T, leb, leb→le}
 use borrow.Author.Tests.{leb-true, leb-false, le-leb, lt-leb, not-false}
-use Rattle.model.specs.Basics.{allTo, firstFrom, check, firstMet}
+use Rattle.model.specs.Basics.{allTo, firstFrom, Check, check, firstMet}
 use Rattle.model.specs.Table.{Table, tableChecks, tableRefusal}
 use Rattle.model.specs.Bounds.{upTo, upArrivals, blocking, holdTest, holdOf, isThere, orZero, boundsRefusal, hold}
 use Rattle.model.specs.Promises.{IsHold, HoldIsSmallest}
-use Rattle.model.proofs.Search.{IsFirst, first-some, first-none, is-first, is-none, climb, climb-below}
+use Rattle.model.proofs.Checks.{all-to, to-all, first-past, none-met, Numbered, numbered-append, none-front, none-back, first-none, NoneMet}
+use Rattle.model.proofs.TableFacts.{table-numbered}
+use Rattle.model.proofs.Search.{IsFirst, found-first, found-none, is-first, is-none, climb, climb-below}
 use Rattle.model.proofs.Curves.{curve-grows}
 
 pub up-grows : (t : Table) (p x y : ℕ) → x ≤ y → upArrivals t p x ≤ upArrivals t p y
@@ -23,7 +25,7 @@ up-grows t p x y l = curve-grows (λ n. n) (upTo p) (t .lines) (t .links) x y l
 pub hold-is : (t : Table) (p w : ℕ) → holdOf t p ≡ some w → IsHold t p w
 unfolding holdOf holdTest
 hold-is t p w e =
-    let r : IsFirst (holdTest t p) 65_536 1 w = first-some (holdTest t p) 65_536 1 w e in
+    let r : IsFirst (holdTest t p) 65_536 1 w = found-first (holdTest t p) 65_536 1 w e in
     record {
       least-is = r .from;
       most-is = omega arith;
@@ -33,7 +35,7 @@ hold-is t p w e =
 
 pub hold-smallest : HoldIsSmallest
 unfolding holdOf holdTest
-hold-smallest t p = (hold-is t p, λ e w l m. leb-false _ _ (first-none (holdTest t p) 65_536 1 e w l (omega arith)))
+hold-smallest t p = (hold-is t p, λ e w l m. leb-false _ _ (found-none (holdTest t p) 65_536 1 e w l (omega arith)))
 
 -- ---- by climbing
 climbs-past : (t : Table) (p n k : ℕ) → 1 ≤ k → k < climb (upArrivals t p) (blocking t p) n 1 → k < blocking t p + upArrivals t p (k - 1)
@@ -60,3 +62,53 @@ unfolding holdOf holdTest
 climbed-past t p n a =
     is-none (holdTest t p) 65_536 1
     (λ k l m. lt-leb _ _ (climbs-past t p n k l (omega (arith, leb→le 65_537 (climb (upArrivals t p) (blocking t p) n 1) a))))
+
+-- ---- of a table that has bounds
+there-is : (o : Option ℕ) → isThere o ≡ true → o ≡ some (orZero o)
+unfolding isThere orZero
+there-is none e = absurd (let z : _≡_ {A = ℕ} 0 1 = cc in omega arith)
+there-is (some w) e = refl
+
+pub record HasBounds (t : Table) : Type 0 where
+  pub table : tableRefusal t ≡ 0
+  pub holds : (p : ℕ) → p < 8 → holdOf t p ≡ some (hold t p)
+
+pub has-bounds : (t : Table) → boundsRefusal t ≡ 0 → HasBounds t
+unfolding boundsRefusal tableRefusal hold
+has-bounds t e =
+    record {
+      table = first-none (tableChecks t) (none-front (tableChecks t) last pass);
+      holds =
+          λ p l.
+          there-is (holdOf t p)
+          (all-to (λ q. isThere (holdOf t q)) 8 (not-false (allTo (λ q. isThere (holdOf t q)) 8) (none-back (tableChecks t) last pass .0)) p l);
+    }
+  where
+    last : List Check
+    last = check 8 (not (allTo (λ p. isThere (holdOf t p)) 8)) ∷ []
+
+    pass : NoneMet (tableChecks t ++ (check 8 (not (allTo (λ p. isThere (holdOf t p)) 8)) ∷ []))
+    pass =
+        none-met 8 (tableChecks t ++ (check 8 (not (allTo (λ p. isThere (holdOf t p)) 8)) ∷ []))
+        (numbered-append 8 (tableChecks t) (check 8 (not (allTo (λ p. isThere (holdOf t p)) 8)) ∷ []) (table-numbered 8 (omega arith) t) (omega arith)) e
+
+-- ---- the refusal from the holds
+not-all : (test : ℕ → Bool) (n k : ℕ) → k < n → test k ≡ false → allTo test n ≡ false
+not-all test n k l e = go (allTo test n) refl
+  where
+    go : (b : Bool) → allTo test n ≡ b → b ≡ false
+    go false q = refl
+    go true q = absurd (let z : _≡_ {A = ℕ} 0 1 = let w : true ≡ false = sym (all-to test n q k l) ∙ e in cc in omega arith)
+
+module _ (t : Table) (passes : tableRefusal t ≡ 0) where
+  past-table : boundsRefusal t ≡ firstMet (check 8 (not (allTo (λ p. isThere (holdOf t p)) 8)) ∷ [])
+  unfolding boundsRefusal tableRefusal
+  past-table = first-past (tableChecks t) _ (none-met 6 (tableChecks t) (table-numbered 6 (omega arith) t) passes)
+
+  pub no-hold : (p : ℕ) → p < 8 → holdOf t p ≡ none → boundsRefusal t ≡ 8
+  unfolding firstMet isThere
+  no-hold p l e = rw (past-table, not-all (λ q. isThere (holdOf t q)) 8 p l (rw e))
+
+  pub all-holds : ((p : ℕ) → p < 8 → isThere (holdOf t p) ≡ true) → boundsRefusal t ≡ 0
+  unfolding firstMet
+  all-holds h = rw (past-table, to-all (λ q. isThere (holdOf t q)) 8 h)

@@ -16,10 +16,10 @@ pub record IsFirst (p : ℕ → Bool) (n a w : ℕ) : Type 0 where
   pub holds : p w ≡ true
   pub before : (k : ℕ) → a ≤ k → k < w → p k ≡ false
 
-pub first-some : (p : ℕ → Bool) (n a w : ℕ) → firstFrom p n a ≡ some w → IsFirst p n a w
+pub found-first : (p : ℕ → Bool) (n a w : ℕ) → firstFrom p n a ≡ some w → IsFirst p n a w
 unfolding firstFrom
-first-some p zero a w e = absurd (let z : _≡_ {A = ℕ} 0 1 = cc in omega arith)
-first-some p (suc n) a w e = go (p a) refl (first-some p n (suc a) w)
+found-first p zero a w e = absurd (let z : _≡_ {A = ℕ} 0 1 = cc in omega arith)
+found-first p (suc n) a w e = go (p a) refl (found-first p n (suc a) w)
   where
     go : (b : Bool) → p a ≡ b → (firstFrom p n (suc a) ≡ some w → IsFirst p n (suc a) w) → IsFirst p (suc n) a w
     go true q ih =
@@ -34,10 +34,10 @@ first-some p (suc n) a w e = go (p a) refl (first-some p n (suc a) w)
           before = λ k l m. elim (eq-or-lt-of-le l) [ inl x ↦ rw (← x) q | inr x ↦ f .before k x m ];
         }
 
-pub first-none : (p : ℕ → Bool) (n a : ℕ) → firstFrom p n a ≡ none → (k : ℕ) → a ≤ k → k < a + n → p k ≡ false
+pub found-none : (p : ℕ → Bool) (n a : ℕ) → firstFrom p n a ≡ none → (k : ℕ) → a ≤ k → k < a + n → p k ≡ false
 unfolding firstFrom
-first-none p zero a e k l m = absurd (omega arith)
-first-none p (suc n) a e k l m = go (p a) refl (first-none p n (suc a))
+found-none p zero a e k l m = absurd (omega arith)
+found-none p (suc n) a e k l m = go (p a) refl (found-none p n (suc a))
   where
     go : (b : Bool) → p a ≡ b → (firstFrom p n (suc a) ≡ none → (j : ℕ) → suc a ≤ j → j < suc a + n → p j ≡ false) → p k ≡ false
     go true q ih = absurd (let z : _≡_ {A = ℕ} 0 1 = let y : _≡_ {A = Option ℕ} (some a) none = rw q at e in cc in omega arith)

@@ -9,11 +9,23 @@ use lib.Dec.{eqb}
 use lib.ListN.{length, getD}
 use Rattle.model.specs.Link.{VirtualLink, bag, linkAt, anyOf}
 use Rattle.model.specs.Table.{Table, tableRefusal}
+use Rattle.model.specs.TableFile.{tableBytes, Reading, readTable, fileLength}
 use Rattle.model.specs.Arrival.{arrivalCurve}
 use Rattle.model.specs.Bounds.{ofPriority, upArrivals, blocking, holdOf, backlog, boundsRefusal, hold, bound}
 use Rattle.model.specs.Machine.{Frame, Scheduler, Departure, advance, framesHeld}
 use Rattle.model.specs.Report.{Port, fit, Call}
 use Rattle.model.specs.Run.{Entry, run, accepted, passedBy, departuresBy, without, heldFrames, hasPriority, ticksOf, KeepBagAndJitter, Always, Demand3}
+
+-- "The table file reads and writes by the layout, each undoing the other"
+abbrev pub ReadsWritten : Type 0
+ReadsWritten = (t : Table) → tableRefusal t ≡ 0 → readTable (tableBytes t) ≡ record { refused = 0; table = t }
+
+abbrev pub WritesRead : Type 0
+WritesRead = (file : List ℕ) → ((i : ℕ) → i < length file → getD file i 0 < 256) → readTable file .refused ≡ 0 → tableBytes (readTable file .table) ≡ file
+
+-- "A file has 44 + 18 × n bytes"
+abbrev pub FileLength : Type 0
+FileLength = (t : Table) → tableRefusal t ≡ 0 → length (tableBytes t) ≡ fileLength t
 
 -- Demand 3, "for every list of frame and wait reports, refused ones among them, from a fresh port whose table has bounds"
 abbrev pub DemandThree : Type 0
@@ -59,7 +71,7 @@ BoundIsGreatest = (t : Table) → boundsRefusal t ≡ 0 → (p : ℕ) → p < 8 
 
 -- the frames freed and those left are the frames held before: an advance frees no more than are held
 abbrev pub NoneAppears : Type 0
-NoneAppears = (t : Table) → tableRefusal t ≡ 0 → (s : Port) → fit t s ≡ true → length (s .scheduler .queues) ≡ 8 → (time : ℕ)
+NoneAppears = (t : Table) (s : Port) → fit t s ≡ true → length (s .scheduler .queues) ≡ 8 → (time : ℕ)
     → length (advance time (s .scheduler) .departures) + framesHeld (advance time (s .scheduler) .scheduler .queues) ≡ framesHeld (s .scheduler .queues)
 
 -- ---- for the next switch on the way

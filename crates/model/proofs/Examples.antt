@@ -1,0 +1,175 @@
+-- The examples that are computed from the definitions alone.
+use mathlib.Core.Path.{_≡_, refl, ap}
+use mathlib.Core.Bool.{Bool, true, false, _&&_, and-eq-true-iff}
+use mathlib.Core.List.{List, [], _∷_, flatMap}
+use Prim.Native.Nat.{ℕ}
+use native.Mathlib.Omega.{arith}
+use lib.Dec.{eqb}
+use lib.ListN.{getD, drop}
+use borrow.Author.Tests.{eqb-true}
+use Rattle.model.specs.Basics.{eight, Each, done, also, provided, sumTo, greatestTo, allTo, allHold, firstFrom, further, firstMet}
+use Rattle.model.specs.Units.{occupied}
+use Rattle.model.specs.Link.{bagOf, placeOf, anyOf, sumOver, greatestOver}
+use Rattle.model.specs.Table.{countsInRange, fieldsInRange, notAbove, linksChecks, allAtMost, tableChecks, tableRefusal}
+use Rattle.model.specs.Arrival.{frameCurve, onLine, lineCurve, arrivalCurve}
+use Rattle.model.specs.Bounds.{ofPriority, upTo, beyond, ownArrivals, upArrivals, longest, blocking, holdTest, holdOf, backlog, boundWithin, isThere, orZero, boundsRefusal, hold, bound}
+use Rattle.model.specs.TableFile.{tableBytes}
+use Rattle.model.specs.Sheet.{text, sheet}
+use Rattle.model.specs.Machine.{highestWaiting, startIfAny, started, freedIf, byteLeaves, tick, ticks, advance, bytes, framesHeld}
+use Rattle.model.specs.Report.{Answer, fresh, namesLink, framesFit, senderFit, fit, tickOf, frameChecks, reportChecks, reportRefusal, admits, admitted, replenished, charged, hasRoom, storedIf, passedIf, judge, judgeReport, bytesFreed, acceptedOr, step}
+use Rattle.model.specs.Run.{run}
+use Rattle.model.specs.Examples.{Outcome, Example, gives-bound, gives-hold, lacks-bounds, gives-answers, gives-bags, gives-sheet, outcomes, Correct}
+use Rattle.model.specs.Examples as example
+
+-- ---- the common theorem: an example whose test computes to true is correct
+
+unfoldable pub sameNumbers : List ℕ → List ℕ → Bool
+sameNumbers [] [] = true
+sameNumbers [] (b ∷ ys) = false
+sameNumbers (a ∷ xs) [] = false
+sameNumbers (a ∷ xs) (b ∷ ys) = eqb a b && sameNumbers xs ys
+
+abbrev pub numbersOf : Outcome → List ℕ
+numbersOf a = a .answer .refused ∷ a .answer .verdict ∷ a .answer .frames ∷ a .answer .bytes ∷ a .list
+
+abbrev outcomeOf : List ℕ → Outcome
+outcomeOf l = record { answer = record { refused = getD l 0 0; verdict = getD l 1 0; frames = getD l 2 0; bytes = getD l 3 0 }; list = drop 4 l }
+
+unfoldable pub sameOutcome : Outcome → Outcome → Bool
+sameOutcome a b = sameNumbers (numbersOf a) (numbersOf b)
+
+unfoldable pub sameOutcomes : List Outcome → List Outcome → Bool
+sameOutcomes [] [] = true
+sameOutcomes [] (b ∷ ys) = false
+sameOutcomes (a ∷ xs) [] = false
+sameOutcomes (a ∷ xs) (b ∷ ys) = sameOutcome a b && sameOutcomes xs ys
+
+unfoldable pub computes : Example → Bool
+computes (gives-bound t p b h) = sameNumbers (hold t p ∷ bound t p ∷ []) (h ∷ b ∷ [])
+computes (gives-hold t p h) = eqb (hold t p) h
+computes (lacks-bounds t n) = eqb (boundsRefusal t) n
+computes (gives-answers t calls expected) = sameOutcomes (outcomes t calls) expected
+computes (gives-bags bags) = sameNumbers (eight bagOf) bags
+computes (gives-sheet t printed) = sameNumbers (sheet (tableBytes t)) (text printed)
+
+numbers-equal : (xs ys : List ℕ) → sameNumbers xs ys ≡ true → xs ≡ ys
+unfolding sameNumbers
+numbers-equal [] [] e = refl
+numbers-equal [] (y ∷ ys) e = absurd (let z : _≡_ {A = ℕ} 0 1 = cc in omega arith)
+numbers-equal (x ∷ xs) [] e = absurd (let z : _≡_ {A = ℕ} 0 1 = cc in omega arith)
+numbers-equal (x ∷ xs) (y ∷ ys) e =
+    let s = and-eq-true-iff (eqb x y) (sameNumbers xs ys) .0 e in
+    let h : x ≡ y = eqb-true x y (s .0) in
+    let t : xs ≡ ys = numbers-equal xs ys (s .1) in
+    cc
+
+outcome-equal : (a b : Outcome) → sameOutcome a b ≡ true → a ≡ b
+unfolding sameOutcome
+outcome-equal a b e = ap outcomeOf (numbers-equal (numbersOf a) (numbersOf b) e)
+
+outcomes-equal : (xs ys : List Outcome) → sameOutcomes xs ys ≡ true → xs ≡ ys
+unfolding sameOutcomes
+outcomes-equal [] [] e = refl
+outcomes-equal [] (y ∷ ys) e = absurd (let z : _≡_ {A = ℕ} 0 1 = cc in omega arith)
+outcomes-equal (x ∷ xs) [] e = absurd (let z : _≡_ {A = ℕ} 0 1 = cc in omega arith)
+outcomes-equal (x ∷ xs) (y ∷ ys) e =
+    let s = and-eq-true-iff (sameOutcome x y) (sameOutcomes xs ys) .0 e in
+    let h : x ≡ y = outcome-equal x y (s .0) in
+    let t : xs ≡ ys = outcomes-equal xs ys (s .1) in
+    cc
+
+pub settled : (e : Example) → computes e ≡ true → Correct e
+unfolding computes Correct
+settled (gives-bound t p b h) e =
+    let s : (hold t p ∷ bound t p ∷ []) ≡ (h ∷ b ∷ []) = numbers-equal (hold t p ∷ bound t p ∷ []) (h ∷ b ∷ []) e in
+    (cc, cc)
+settled (gives-hold t p h) e = eqb-true (hold t p) h e
+settled (lacks-bounds t n) e = eqb-true (boundsRefusal t) n e
+settled (gives-answers t calls expected) e = outcomes-equal (outcomes t calls) expected e
+settled (gives-bags bags) e = numbers-equal (eight bagOf) bags e
+settled (gives-sheet t printed) e = numbers-equal (sheet (tableBytes t)) (text printed) e
+
+-- names for all that an example computes with
+the-port : ℕ
+unfolding computes sameOutcomes sameOutcome sameNumbers outcomes run step acceptedOr judgeReport judge passedIf storedIf hasRoom charged replenished admitted admits reportRefusal reportChecks frameChecks tickOf fit senderFit framesFit namesLink fresh bytesFreed advance ticks tick byteLeaves freedIf started startIfAny highestWaiting bytes framesHeld placeOf bagOf further firstMet allHold allTo tableRefusal tableChecks allAtMost linksChecks notAbove fieldsInRange countsInRange occupied flatMap
+the-port = 0
+
+the-formulas : ℕ
+unfolding computes sameNumbers boundsRefusal hold bound orZero isThere boundWithin backlog holdOf holdTest blocking longest upArrivals ownArrivals beyond upTo ofPriority arrivalCurve lineCurve onLine frameCurve greatestOver sumOver anyOf bagOf tableChecks allAtMost linksChecks notAbove fieldsInRange countsInRange provided sumTo greatestTo allTo allHold firstFrom firstMet occupied
+the-formulas = 0
+
+pub c : Correct example.c
+unfolding the-port
+c = settled example.c refl
+
+pub d : Correct example.d
+unfolding the-port
+d = settled example.d refl
+
+pub e : Correct example.e
+unfolding the-port
+e = settled example.e refl
+
+pub f : Correct example.f
+unfolding the-port
+f = settled example.f refl
+
+pub m : Correct example.m
+unfolding the-port
+m = settled example.m refl
+
+pub n : Correct example.n
+unfolding the-port
+n = settled example.n refl
+
+pub o : Correct example.o
+unfolding the-port
+o = settled example.o refl
+
+pub p : Correct example.p
+unfolding the-port
+p = settled example.p refl
+
+pub q : Correct example.q
+unfolding the-port
+q = settled example.q refl
+
+pub r : Correct example.r
+unfolding the-port
+r = settled example.r refl
+
+pub s : Correct example.s
+unfolding the-port
+s = settled example.s refl
+
+pub u : Correct example.u
+unfolding the-port
+u = settled example.u refl
+
+pub a : Correct example.a
+unfolding the-formulas
+a = settled example.a refl
+
+pub b : Correct example.b
+unfolding the-formulas
+b = settled example.b refl
+
+pub g : Correct example.g
+unfolding the-formulas
+g = settled example.g refl
+
+pub h : Correct example.h
+unfolding the-formulas
+h = settled example.h refl
+
+pub k : Correct example.k
+unfolding the-formulas
+k = settled example.k refl
+
+pub l : Correct example.l
+unfolding the-formulas
+l = settled example.l refl
+
+pub t : Correct example.t
+unfolding computes sameNumbers bagOf
+t = settled example.t refl

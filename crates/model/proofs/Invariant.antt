@@ -1,0 +1,237 @@
+-- What every list of reports keeps, with bounds or without: the scheduler is sound, the gate is good, the queues are in order,
+-- the marks are within the sizes.
+use mathlib.Core.Path.{_≡_, refl, sym, ap, _∙_}
+use mathlib.Core.Bool.{Bool, true, false, not, _&&_}
+use mathlib.Core.Option.{Option, none, some}
+use mathlib.Core.List.{List, [], _∷_, _++_}
+use Prim.Native.Nat.{ℕ, zero, suc, _+_, _-_, _*_, _≤_, _<_, max}
+use native.Mathlib.Nat.{le-refl, le-trans}
+use native.Mathlib.Decide.{ℕ-discrete}
+use native.Mathlib.Omega.{arith}
+use lib.Dec.{eqb, leb, lit≤}
+use borrow.Author.Tests.{eq-eqb, le-leb}
+use lib.ListN.{length, getD, set, length-set, replicate}
+use lib.Seq.{getD-set-same, getD-set-other}
+use Rattle.model.specs.Basics.{provided, Each, done}
+use Rattle.model.specs.Units.{lastTick, occupied}
+use Rattle.model.specs.Link.{VirtualLink, bag, linkAt, placeOf}
+use Rattle.model.specs.Table.{Table, sizeOf}
+use Rattle.model.specs.Bounds.{ofPriority, longest, orZero}
+use Rattle.model.specs.Machine.{Frame, Scheduler, Departure, queueOf, queuedLast, advance, stored, bytes, held}
+use Rattle.model.specs.Report.{Account, Port, markOf, fresh, namesLink, Report, wait, frame, Judged, judged, charged, storedIf, withLineTick, arrived, Stepped, step, Call}
+use Rattle.model.specs.Run.{Entry, accepted, frameIf, passedBy, run}
+use Rattle.model.specs.Promises.{Weight}
+use Rattle.model.proofs.Checks.{true-all}
+use Rattle.model.proofs.Curves.{occupied-weight, greatest-ge}
+use Rattle.model.proofs.Passed.{Passed, passedFrame}
+use Rattle.model.proofs.Gate.{mem-at, Gate, gateOf, raisedGate, policedGate, passedGate, Good, Conforms, after-set, later-good, raise-good, police-good, pass-good, fresh-good}
+use Rattle.model.proofs.ValidTable.{Valid}
+use Rattle.model.proofs.BusyPeriod.{Sends, Meets, Sound, put-bytes}
+use Rattle.model.proofs.BusySteps.{stored-sound}
+use Rattle.model.proofs.QueueSteps.{advance-keeps, advance-sound, advance-clock, held-tail}
+use Rattle.model.proofs.Stepping.{Admitted, renewed, chargedPort, priorityAt, Judgement, filters, polices, drops, stores, Timely, Arrives, movedTo, freedBy, Stepping, refuses, waits, frames, stepping}
+use Rattle.model.proofs.Lined.{Lined, over, lined-later, lined-tail, lined-last}
+use Rattle.model.proofs.Log.{entryOf, taken, frame-declined, andPassed, passedFrames}
+
+-- for every set of links and every weight
+abbrev pub AllGood : Table → List Passed → ℕ → Gate → Type 0
+AllGood t h clock g = (weight : ℕ → ℕ) → Weight weight → (members : VirtualLink → Bool) → Good weight members (t .lines) (t .links) h clock g
+
+-- the part of a port that frames and departures change
+pub record Ordered (t : Table) (s : Port) : Type 0 where
+  pub sound : Sound (longest t) (s .scheduler)
+  pub lined : (q : ℕ) → Lined t q (s .scheduler .clock) 0 (queueOf (s .scheduler .queues) q)
+  pub early : s .scheduler .clock ≤ lastTick
+  pub eight : length (s .marks) ≡ 8
+  pub below : (p : ℕ) → p < 8 → held (queueOf (s .scheduler .queues) p) ≤ markOf s p
+  pub within : (p : ℕ) → p < 8 → markOf s p ≤ sizeOf t p
+
+pub record Invariant (t : Table) (s : Port) (log : List Entry) : Type 0 where
+  pub ordered : Ordered t s
+  pub good : AllGood t (passedFrames t log) (s .scheduler .clock) (gateOf s)
+
+-- the gate plays no part in it
+regated : (t : Table) (s : Port) → Ordered t s → (lineTicks : List ℕ) (accounts : List Account)
+    → Ordered t (record { scheduler = s .scheduler; marks = s .marks; lineTicks = lineTicks; accounts = accounts })
+regated t s k lineTicks accounts = record { sound = k .sound; lined = k .lined; early = k .early; eight = k .eight; below = k .below; within = k .within }
+
+-- ---- an advance
+pub moved-ordered : (t : Table) (s : Port) (time : ℕ) → Timely s time → Ordered t s → Ordered t (movedTo s time)
+moved-ordered t s time timely k =
+    record {
+      sound = advance-sound (longest t) time (s .scheduler) (k .sound);
+      lined =
+          rw there
+          (advance-keeps (λ q l. Lined t q time 0 l) (λ q l x. lined-tail t q time l x) (longest t) time (s .scheduler) (k .sound)
+          (λ q. lined-later t q (s .scheduler .clock) time 0 (queueOf (s .scheduler .queues) q) (timely .from) (k .lined q)));
+      early = rw there (timely .soon);
+      eight = k .eight;
+      below =
+          λ p m.
+          le-trans
+          (advance-keeps (λ q l. held l ≤ held (queueOf (s .scheduler .queues) q)) (λ q l x. le-trans (held-tail l) x) (longest t) time (s .scheduler) (k .sound)
+          (λ q. le-refl (held (queueOf (s .scheduler .queues) q))) p)
+          (k .below p m);
+      within = k .within;
+    }
+  where
+    there : advance time (s .scheduler) .scheduler .clock ≡ time
+    there = advance-clock time (s .scheduler) (timely .from)
+
+-- ---- a frame is stored
+module _ (t : Table) (valid : Valid t) (s : Port) (k : Ordered t s) (time line number len i : ℕ) (clock : s .scheduler .clock ≡ time) (long : 84 ≤ len) (a : Admitted t line number len i) where
+  abbrev p : ℕ
+  p = priorityAt t i
+
+  abbrev it : Frame
+  it = arrived number len time
+
+  abbrev queues : List (List Frame)
+  queues = s .scheduler .queues
+
+  p-below : p < 8
+  p-below = omega (arith, valid .fields i (a .at-place) .priority-most)
+
+  p-in : p < length queues
+  p-in = omega (arith, p-below, k .sound .eight)
+
+  pub names-its-link : namesLink t p len (placeOf number (t .links)) ≡ true
+  unfolding namesLink
+  names-its-link =
+      rw (a .place)
+      (true-all _ (eq-eqb p p refl, (le-leb (linkAt (t .links) i .least) len (a .not-shorter), (le-leb len (linkAt (t .links) i .greatest) (a .not-longer), tt))))
+
+  pub meets-its-queue : Meets (longest t p) (s .scheduler .clock) it
+  unfolding longest ofPriority
+  meets-its-queue =
+      record {
+        positive = omega arith;
+        short = le-trans (a .not-longer) (greatest-ge (ofPriority p) (λ v. v .greatest) (mem-at (t .links) i (a .at-place)) (eq-eqb p p refl));
+        past = omega arith;
+      }
+
+  pub grown : held (queueOf (queuedLast queues p it) p) ≡ held (queueOf queues p) + occupied len
+  unfolding provided
+  grown = rw (eq-eqb p p refl) at (put-bytes occupied queues p p it p-in)
+
+  pub stored-ordered : held (queueOf queues p) + occupied len ≤ sizeOf t p → (lineTicks : List ℕ) (accounts : List Account)
+      → Ordered t (storedIf true (record { scheduler = s .scheduler; marks = s .marks; lineTicks = lineTicks; accounts = accounts }) p it .port)
+  unfolding storedIf
+  stored-ordered room lineTicks accounts =
+      record {
+        sound = stored-sound (longest t) (s .scheduler) p it p-below meets-its-queue (k .sound);
+        lined = λ q. row q (ℕ-discrete q p);
+        early = k .early;
+        eight = rw length-set (k .eight);
+        below = λ q m. low q m (ℕ-discrete q p);
+        within =
+            after-set (λ q mark. mark ≤ sizeOf t q) 8 (s .marks) 0 p (max (markOf s p) (held (queueOf (queuedLast queues p it) p))) (k .eight) p-below
+            (omega (arith, grown, k .within p p-below)) (λ q m _. k .within q m);
+      }
+    where
+      row : (q : ℕ) → Dec (q ≡ p) → Lined t q (s .scheduler .clock) 0 (queueOf (queuedLast queues p it) q)
+      row q (yes x) =
+          rw (x, getD-set-same queues p (queueOf queues p ++ (it ∷ [])) [] p-in)
+          (lined-last t p (s .scheduler .clock) 0 (queueOf queues p) it (omega arith) names-its-link (sym clock) (k .lined p))
+      row q (no n) = rw (getD-set-other queues p q (queueOf queues p ++ (it ∷ [])) [] n) (k .lined q)
+
+      marks-in : p < length (s .marks)
+      marks-in = omega (arith, p-below, k .eight)
+
+      low : (q : ℕ) → q < 8 → Dec (q ≡ p) → held (queueOf (queuedLast queues p it) q) ≤ getD (set (s .marks) p (max (markOf s p) (held (queueOf (queuedLast queues p it) p)))) q 0
+      low q m (yes x) = rw (x, getD-set-same (s .marks) p (max (markOf s p) (held (queueOf (queuedLast queues p it) p))) 0 marks-in) (omega arith)
+      low q m (no n) =
+          rw (getD-set-other (s .marks) p q (max (markOf s p) (held (queueOf (queuedLast queues p it) p))) 0 n, getD-set-other queues p q (queueOf queues p ++ (it ∷ [])) [] n)
+          (k .below q m)
+
+-- ---- a report
+module _ (t : Table) (valid : Valid t) (s : Port) (log : List Entry) (k : Invariant t s log) where
+  module _ (time : ℕ) (timely : Timely s time) where
+    there : advance time (s .scheduler) .scheduler .clock ≡ time
+    there = advance-clock time (s .scheduler) (timely .from)
+
+    moved : Ordered t (movedTo s time)
+    moved = moved-ordered t s time timely (k .ordered)
+
+    module _ (line number len : ℕ) (arrives : Arrives t s time line len) (list : List ℕ) where
+      raised : AllGood t (passedFrames t log) time (raisedGate (gateOf s) line time)
+      raised weight z members = raise-good (k .good weight z members) line time (arrives .line-in) (timely .from)
+
+      passed : (i : ℕ) → Admitted t line number len i → bag (linkAt (t .links) i) ≤ renewed t s i time .credit
+          → AllGood t (andPassed t (some (arrived number len time)) (passedFrames t log)) time (passedGate (t .links) (gateOf s) line i time)
+      unfolding andPassed orZero
+      passed i a c weight z members =
+          rw (a .place)
+          (pass-good (k .good weight z members) z (valid .rising) line i len time
+          (record { in-table = a .at-place; on-line = a .on-its-line; line-below = arrives .line-in; short = a .not-longer; covered = c; spaced = arrives .spaced })
+          (timely .from))
+
+      judged-kept : {j : Judged} → Judgement t (withLineTick (movedTo s time) line time) time line number len j
+          → Invariant t (j .port) (taken (frame time line number len) (j .verdict) (freedBy s time) list ∷ log)
+      unfolding passedFrames passedBy frameIf accepted andPassed storedIf
+      judged-kept filters =
+          record {
+            ordered = regated t (movedTo s time) moved (set (s .lineTicks) line time) (s .accounts);
+            good = λ weight z members. rw there (raised weight z members);
+          }
+      judged-kept (polices i a c) =
+          record {
+            ordered = regated t (movedTo s time) moved (set (s .lineTicks) line time) (set (s .accounts) i (renewed t s i time));
+            good = λ weight z members. rw there (police-good (raised weight z members) i time (a .at-place) (le-refl time));
+          }
+      judged-kept (drops i a c room) =
+          record {
+            ordered = regated t (movedTo s time) moved (set (s .lineTicks) line time) (set (s .accounts) i (charged (linkAt (t .links) i) (renewed t s i time)));
+            good = λ weight z members. rw there (passed i a c weight z members);
+          }
+      judged-kept (stores i a c room) =
+          record {
+            ordered =
+                stored-ordered t valid (movedTo s time) moved time line number len i there (arrives .long) a room (set (s .lineTicks) line time)
+                (set (s .accounts) i (charged (linkAt (t .links) i) (renewed t s i time)));
+            good = λ weight z members. rw there (passed i a c weight z members);
+          }
+
+  pub step-kept : (list : List ℕ) {r : Report} {x : Stepped} → Stepping t s list r x → Invariant t (x .port) (entryOf r x ∷ log)
+  unfolding passedFrames passedBy frameIf andPassed
+  step-kept list (refuses {r = r} n) =
+      record { ordered = k .ordered; good = λ weight z members. rw (frame-declined (λ verdict. not (eqb verdict 1) && not (eqb verdict 2)) r n) (k .good weight z members) }
+  step-kept list (waits time timely) =
+      record {
+        ordered = moved time timely;
+        good = λ weight z members. rw (there time timely) (later-good (k .good weight z members) time (timely .from));
+      }
+  step-kept list (frames time line number len timely arrives j) = judged-kept time timely line number len arrives list j
+
+-- ---- the fresh port
+pub empty-queues : (n p : ℕ) → getD {A = List Frame} (replicate n []) p [] ≡ []
+empty-queues zero p = refl
+empty-queues (suc n) zero = refl
+empty-queues (suc n) (suc p) = empty-queues n p
+
+pub no-marks : (n p : ℕ) → getD {A = ℕ} (replicate n 0) p 0 ≡ 0
+no-marks zero p = refl
+no-marks (suc n) zero = refl
+no-marks (suc n) (suc p) = no-marks n p
+
+pub fresh-kept : (t : Table) → Invariant t (fresh t) []
+unfolding fresh Sends bytes passedFrames
+fresh-kept t =
+    record {
+      ordered =
+          record {
+            sound = record { eight = refl; frames = λ q. rw (empty-queues 8 q) done; sends = tt };
+            lined = λ q. rw (empty-queues 8 q) over;
+            early = lit≤ tt;
+            eight = refl;
+            below = λ p m. rw (empty-queues 8 p) (omega arith);
+            within = λ p m. rw (no-marks 8 p) (omega arith);
+          };
+      good = λ weight z members. fresh-good weight members t;
+    }
+
+-- ---- every list of reports
+pub run-kept : (t : Table) → Valid t → (calls : List Call) → Invariant t (run t calls .port) (run t calls .log)
+unfolding run
+run-kept t v [] = fresh-kept t
+run-kept t v (c ∷ calls) = step-kept t v (run t calls .port) (run t calls .log) (run-kept t v calls) (c .list) (stepping t (run t calls .port) (c .list) (c .report))

@@ -1,0 +1,165 @@
+-- What a report comes to, case by case, with what its checks tell.
+use mathlib.Core.Path.{_≡_, refl}
+use mathlib.Core.Bool.{Bool, true, false, cond, not}
+use mathlib.Core.Option.{Option, none, some}
+use mathlib.Core.List.{List, [], _∷_, _++_}
+use Prim.Native.Nat.{ℕ, zero, suc, _+_, _*_, _≤_, _<_}
+use native.Mathlib.Omega.{arith}
+use lib.Dec.{eqb, leb, ltb}
+use borrow.Author.Tests.{eqb-true, leb-true, leb-false, ltb-false, not-false}
+use lib.ListN.{length}
+use Rattle.model.specs.Basics.{further, firstMet}
+use Rattle.model.specs.Units.{lastTick, leastLength, greatestLength, occupied}
+use Rattle.model.specs.Link.{VirtualLink, bag, linkAt, placeOf}
+use Rattle.model.specs.Table.{Table, sizeOf}
+use Rattle.model.specs.Machine.{Frame, Departure, queueOf, advance, held, framesHeld}
+use Rattle.model.specs.Report.{Account, Port, accountAt, lineTick, fit, Report, wait, frame, tickOf, frameChecks, reportChecks, roomCheck, reportRefusal, Judged, judged, admits, admitted, replenished, charged, withAccount, hasRoom, storedIf, passedIf, judge, Call, Stepped, withScheduler, withLineTick, arrived, judgeReport, listed, answered, refusal, acceptedOr, step}
+use Rattle.model.proofs.Checks.{all-true, Numbered, NoneMet, none-met}
+
+-- ---- the place of a number
+pub record Placed (n : ℕ) (links : List VirtualLink) (i : ℕ) : Type 0 where
+  pub in-range : i < length links
+  pub number-is : linkAt links i .number ≡ n
+
+pub placed : (n : ℕ) (links : List VirtualLink) (i : ℕ) → placeOf n links ≡ some i → Placed n links i
+unfolding placeOf further
+placed n [] i e = absurd (let z : _≡_ {A = ℕ} 0 1 = cc in omega arith)
+placed n (v ∷ links) i e = go (eqb (v .number) n) refl (placeOf n links) refl (placed n links)
+  where
+    go : (x : Bool) → eqb (v .number) n ≡ x → (o : Option ℕ) → placeOf n links ≡ o → ((j : ℕ) → placeOf n links ≡ some j → Placed n links j) → Placed n (v ∷ links) i
+    go true x o y ih =
+        let z : 0 ≡ i = let w : some 0 ≡ some i = rw x at e in cc in
+        rw (← z) (record { in-range = omega arith; number-is = eqb-true (v .number) n x })
+    go false x none y ih = absurd (let z : _≡_ {A = ℕ} 0 1 = let w : _≡_ {A = Option ℕ} none (some i) = rw (x, y) at e in cc in omega arith)
+    go false x (some j) y ih =
+        let z : suc j ≡ i = let w : some (suc j) ≡ some i = rw (x, y) at e in cc in
+        let k : Placed n links j = ih j y in
+        rw (← z) (record { in-range = omega (arith, k .in-range); number-is = k .number-is })
+
+-- ---- the verdict
+
+-- the filter lets a frame of the link at place i through
+pub record Admitted (t : Table) (line number len i : ℕ) : Type 0 where
+  pub place : placeOf number (t .links) ≡ some i
+  pub at-place : i < length (t .links)
+  pub named : linkAt (t .links) i .number ≡ number
+  pub on-its-line : linkAt (t .links) i .line ≡ line
+  pub not-shorter : linkAt (t .links) i .least ≤ len
+  pub not-longer : len ≤ linkAt (t .links) i .greatest
+
+-- the account of the link at place i, replenished to a tick
+abbrev pub renewed : Table → Port → ℕ → ℕ → Account
+renewed t s i time = replenished (linkAt (t .links) i) (accountAt (s .accounts) i) time
+
+abbrev pub chargedPort : Table → Port → ℕ → ℕ → Port
+chargedPort t s i time = withAccount s i (charged (linkAt (t .links) i) (renewed t s i time))
+
+abbrev pub priorityAt : Table → ℕ → ℕ
+priorityAt t i = linkAt (t .links) i .priority
+
+module _ (t : Table) (s : Port) (time line number len : ℕ) where
+  pub data Judgement : Judged → Type 0 where
+    filters : Judgement (judged s 1)
+    polices : (i : ℕ) → Admitted t line number len i → renewed t s i time .credit < bag (linkAt (t .links) i) → Judgement (judged (withAccount s i (renewed t s i time)) 2)
+    drops : (i : ℕ) → Admitted t line number len i → bag (linkAt (t .links) i) ≤ renewed t s i time .credit
+        → sizeOf t (priorityAt t i) < held (queueOf (s .scheduler .queues) (priorityAt t i)) + occupied len → Judgement (judged (chargedPort t s i time) 3)
+    stores : (i : ℕ) → Admitted t line number len i → bag (linkAt (t .links) i) ≤ renewed t s i time .credit
+        → held (queueOf (s .scheduler .queues) (priorityAt t i)) + occupied len ≤ sizeOf t (priorityAt t i)
+        → Judgement (storedIf true (chargedPort t s i time) (priorityAt t i) (arrived number len time))
+
+  abbrev it : Frame
+  it = arrived number len time
+
+  storing : (i : ℕ) → Admitted t line number len i → bag (linkAt (t .links) i) ≤ renewed t s i time .credit
+      → (x : Bool) → hasRoom t (chargedPort t s i time) (priorityAt t i) it ≡ x → Judgement (storedIf x (chargedPort t s i time) (priorityAt t i) it)
+  unfolding hasRoom storedIf
+  storing i a c true e = stores i a c (leb-true (held (queueOf (s .scheduler .queues) (priorityAt t i)) + occupied len) (sizeOf t (priorityAt t i)) e)
+  storing i a c false e = drops i a c (leb-false (held (queueOf (s .scheduler .queues) (priorityAt t i)) + occupied len) (sizeOf t (priorityAt t i)) e)
+
+  passing : (i : ℕ) → Admitted t line number len i → (x : Bool) → leb (bag (linkAt (t .links) i)) (renewed t s i time .credit) ≡ x → Judgement (passedIf x t s i (renewed t s i time) it)
+  unfolding passedIf
+  passing i a true e = storing i a (leb-true (bag (linkAt (t .links) i)) (renewed t s i time .credit) e) (hasRoom t (chargedPort t s i time) (priorityAt t i) it) refl
+  passing i a false e = polices i a (leb-false (bag (linkAt (t .links) i)) (renewed t s i time .credit) e)
+
+  admission : (i : ℕ) → placeOf number (t .links) ≡ some i → (x : Bool) → admits (linkAt (t .links) i) line len ≡ x → Judgement (judge t s it (cond x (some i) none))
+  unfolding judge admits
+  admission i e true x =
+      let all = all-true _ x in
+      let p = placed number (t .links) i e in
+      passing i
+      (record {
+        place = e;
+        at-place = p .in-range;
+        named = p .number-is;
+        on-its-line = eqb-true (linkAt (t .links) i .line) line (all .0);
+        not-shorter = leb-true (linkAt (t .links) i .least) len (all .1 .0);
+        not-longer = leb-true len (linkAt (t .links) i .greatest) (all .1 .1 .0);
+      })
+      (leb (bag (linkAt (t .links) i)) (renewed t s i time .credit)) refl
+  admission i e false x = filters
+
+  pub judgement : Judgement (judge t s it (admitted t line len (placeOf number (t .links))))
+  unfolding judge admitted
+  judgement = go (placeOf number (t .links)) refl
+    where
+      go : (o : Option ℕ) → placeOf number (t .links) ≡ o → Judgement (judge t s it (admitted t line len o))
+      go none e = filters
+      go (some i) e = admission i e (admits (linkAt (t .links) i) line len) refl
+
+-- ---- a report
+
+-- what an accepted report's checks tell: of its tick; of a frame
+pub record Timely (s : Port) (time : ℕ) : Type 0 where
+  pub from : s .scheduler .clock ≤ time
+  pub soon : time ≤ lastTick
+
+pub record Arrives (t : Table) (s : Port) (time line len : ℕ) : Type 0 where
+  pub line-in : line < t .lines
+  pub long : leastLength ≤ len
+  pub short : len ≤ greatestLength
+  pub spaced : lineTick s line + len ≤ time
+
+-- the port at the tick of a report; and with the tick of a frame's line set
+abbrev pub movedTo : Port → ℕ → Port
+movedTo s time = withScheduler s (advance time (s .scheduler) .scheduler)
+
+abbrev pub freedBy : Port → ℕ → List Departure
+freedBy s time = advance time (s .scheduler) .departures
+
+abbrev pub accepts : Judged → List Departure → List ℕ → Stepped
+accepts j departures list = record { port = j .port; answer = answered (j .verdict) departures; list = listed departures list }
+
+pub data Stepping (t : Table) (s : Port) (list : List ℕ) : Report → Stepped → Type 0 where
+  refuses : {r : Report} (n : ℕ) → Stepping t s list r (record { port = s; answer = refusal (suc n); list = list })
+  waits : (time : ℕ) → Timely s time → Stepping t s list (wait time) (accepts (judged (movedTo s time) 0) (freedBy s time) list)
+  frames : (time line number len : ℕ) → Timely s time → Arrives t s time line len → {j : Judged} → Judgement t (withLineTick (movedTo s time) line time) time line number len j
+      → Stepping t s list (frame time line number len) (accepts j (freedBy s time) list)
+
+module _ (t : Table) (s : Port) (list : List ℕ) where
+  accepting : (r : Report) → NoneMet (reportChecks t s r ++ (roomCheck s (length list) ∷ [])) → Stepping t s list r (acceptedOr 0 t s (record { report = r; list = list }))
+  unfolding reportChecks frameChecks tickOf acceptedOr judgeReport
+  accepting (wait time) pass = waits time (record { from = ltb-false time (s .scheduler .clock) (pass .1 .1 .0); soon = ltb-false lastTick time (pass .1 .0) })
+  accepting (frame time line number len) pass =
+      let all = all-true _ (not-false _ (pass .1 .1 .1 .1 .0)) in
+      frames time line number len
+      (record { from = ltb-false time (s .scheduler .clock) (pass .1 .1 .0); soon = ltb-false lastTick time (pass .1 .0) })
+      (record {
+        line-in = leb-false (t .lines) line (pass .1 .1 .1 .0);
+        long = leb-true leastLength len (all .0);
+        short = leb-true len greatestLength (all .1 .0);
+        spaced = ltb-false time (lineTick s line + len) (pass .1 .1 .1 .1 .1 .0);
+      })
+      (judgement t (withLineTick (movedTo s time) line time) time line number len)
+
+  numbered : (r : Report) → Numbered 16 (reportChecks t s r ++ (roomCheck s (length list) ∷ []))
+  unfolding reportChecks frameChecks
+  numbered (wait time) = omega arith
+  numbered (frame time line number len) = omega arith
+
+  pub stepping : (r : Report) → Stepping t s list r (step t s (record { report = r; list = list }))
+  unfolding step reportRefusal acceptedOr
+  stepping r = go (reportRefusal t s r (length list)) refl
+    where
+      go : (n : ℕ) → reportRefusal t s r (length list) ≡ n → Stepping t s list r (acceptedOr n t s (record { report = r; list = list }))
+      go zero e = accepting r (none-met 16 (reportChecks t s r ++ (roomCheck s (length list) ∷ [])) (numbered r) e)
+      go (suc n) e = refuses n

@@ -1,0 +1,55 @@
+-- The theorems of specs/Promises.antt and specs/Examples.antt, each under its name.
+use Rattle.model.specs.Basics.{done, also}
+use Rattle.model.specs.Promises.{ReadsWritten, WritesRead, FileLength, DemandThree, NeverUnfit, CurveGrows, HoldIsSmallest, BoundIsGreatest, NoneAppears, DeparturesInTime, DeparturesSpaced, PassedKeep}
+use Rattle.model.specs.Examples.{ExamplesCorrect}
+use Rattle.model.proofs.ReadBack as ReadBack
+use Rattle.model.proofs.FileWrite as FileWrite
+use Rattle.model.proofs.Curves as Curves
+use Rattle.model.proofs.Holds as Holds
+use Rattle.model.proofs.BoundFacts as BoundFacts
+use Rattle.model.proofs.Fitness as Fitness
+use Rattle.model.proofs.Demand as Demand
+use Rattle.model.proofs.Later as Later
+use Rattle.model.proofs.Examples as shown
+use Rattle.model.proofs.ClimbedExamples as climbed
+
+pub reads-written : ReadsWritten
+reads-written = ReadBack.read-written
+
+pub writes-read : WritesRead
+writes-read = FileWrite.written-read
+
+pub file-length : FileLength
+file-length = FileWrite.written-length
+
+pub demand-three : DemandThree
+demand-three = Demand.demand-three
+
+pub never-unfit : NeverUnfit
+never-unfit = Fitness.never-unfit
+
+pub curve-grows : CurveGrows
+curve-grows = Curves.curve-grows
+
+pub hold-is-smallest : HoldIsSmallest
+hold-is-smallest = Holds.hold-smallest
+
+pub bound-is-greatest : BoundIsGreatest
+bound-is-greatest = BoundFacts.bound-greatest
+
+pub none-appears : NoneAppears
+none-appears = Fitness.none-appears
+
+pub departures-in-time : DeparturesInTime
+departures-in-time = Later.departures-in-time
+
+pub departures-spaced : DeparturesSpaced
+departures-spaced = Later.departures-spaced
+
+pub passed-keep : PassedKeep
+passed-keep = Later.passed-keep
+
+pub examples-correct : ExamplesCorrect
+examples-correct =
+    also shown.a (also shown.b (also shown.c (also shown.d (also shown.e (also shown.f (also shown.g (also shown.h (also climbed.i (also climbed.j (also shown.k (also shown.l
+    (also shown.m (also shown.n (also shown.o (also shown.p (also shown.q (also shown.r (also shown.s (also shown.t (also shown.u (also climbed.sheetE done)))))))))))))))))))))
