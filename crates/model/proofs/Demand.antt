@@ -335,9 +335,6 @@ module _ (t : Table) (b : HasBounds t) (v : Valid t) (s : Port) (log : List Entr
                 let n' : bound t p ≤ sizeOf t p = rw e n in
                 omega (arith, grows, held-bound t passing (stored st p it) (gateOf (withAccount port i fee)) sound-with-it (i' .good) with-it p p-below)
 
-        abbrev risen : ℕ
-        risen = max (markOf s p) (held (queueOf (queuedLast (st .queues) p it) p))
-
         stored-kept : bag vl ≤ renewed t s i time .credit → Invariant t (storedIf true (withAccount port i fee) p it .port) (this 0 ∷ log)
             → Kept t (storedIf true (withAccount port i fee) p it .port) (this 0 ∷ log)
         unfolding andLast storedBy droppedBy policedBy throughBy frameIf accepted passedFrames passedBy tickOf storedIf
@@ -351,11 +348,16 @@ module _ (t : Table) (b : HasBounds t) (v : Valid t) (s : Port) (log : List Entr
             (paid-passed c (this 0) refl)
             (k .said)
           where
-            marks-are : (q : ℕ) → q < 8 → Dec (q ≡ p) → getD (set (s .marks) p risen) q 0 ≡ max (mostHeld t q log) (held (queueOf (queuedLast (st .queues) p it) q))
-            marks-are q m (yes e) = rw (e, getD-set-same (s .marks) p risen 0 (omega (arith, p-below, ordered .eight)), k .marked p p-below)
+            after : Port
+            after = storedIf true (withAccount port i fee) p it .port
+
+            marks-in : p < length (s .marks)
+            marks-in = omega (arith, p-below, ordered .eight)
+
+            marks-are : (q : ℕ) → q < 8 → Dec (q ≡ p) → markOf after q ≡ max (mostHeld t q log) (held (queueOf (after .scheduler .queues) q))
+            marks-are q m (yes e) = rw (e, getD-set-same (s .marks), marks-in) (omega (arith, k .marked p p-below))
             marks-are q m (no n) =
-                rw (getD-set-other (s .marks) p q risen 0 n, getD-set-other (st .queues) p q (queueOf (st .queues) p ++ (it ∷ [])) [] n)
-                (omega (arith, k .marked q m, less q m))
+                rw (getD-set-other (s .marks), n, getD-set-other (st .queues) p q (queueOf (st .queues) p ++ (it ∷ [])) [] n) (omega (arith, k .marked q m, less q m))
 
       judged-kept : {j : Judged} → Judgement t port time line number len j → Invariant t (j .port) (this (j .verdict) ∷ log) → Kept t (j .port) (this (j .verdict) ∷ log)
       unfolding storedIf

@@ -124,11 +124,12 @@ module _ (t : Table) (valid : Valid t) (s : Port) (k : Ordered t s) (time line n
         early = k .early;
         eight = rw length-set (k .eight);
         below = λ q m. low q m (ℕ-discrete q p);
-        within =
-            after-set (λ q mark. mark ≤ sizeOf t q) 8 (s .marks) 0 p (max (markOf s p) (held (queueOf (queuedLast queues p it) p))) (k .eight) p-below
-            (omega (arith, grown, k .within p p-below)) (λ q m _. k .within q m);
+        within = λ q m. high q m (ℕ-discrete q p);
       }
     where
+      after : Port
+      after = storedIf true (record { scheduler = s .scheduler; marks = s .marks; lineTicks = lineTicks; accounts = accounts }) p it .port
+
       row : (q : ℕ) → Dec (q ≡ p) → Lined t q (s .scheduler .clock) 0 (queueOf (queuedLast queues p it) q)
       row q (yes x) =
           rw (x, getD-set-same queues p (queueOf queues p ++ (it ∷ [])) [] p-in)
@@ -138,11 +139,13 @@ module _ (t : Table) (valid : Valid t) (s : Port) (k : Ordered t s) (time line n
       marks-in : p < length (s .marks)
       marks-in = omega (arith, p-below, k .eight)
 
-      low : (q : ℕ) → q < 8 → Dec (q ≡ p) → held (queueOf (queuedLast queues p it) q) ≤ getD (set (s .marks) p (max (markOf s p) (held (queueOf (queuedLast queues p it) p)))) q 0
-      low q m (yes x) = rw (x, getD-set-same (s .marks) p (max (markOf s p) (held (queueOf (queuedLast queues p it) p))) 0 marks-in) (omega arith)
-      low q m (no n) =
-          rw (getD-set-other (s .marks) p q (max (markOf s p) (held (queueOf (queuedLast queues p it) p))) 0 n, getD-set-other queues p q (queueOf queues p ++ (it ∷ [])) [] n)
-          (k .below q m)
+      low : (q : ℕ) → q < 8 → Dec (q ≡ p) → held (queueOf (queuedLast queues p it) q) ≤ markOf after q
+      low q m (yes x) = rw (x, getD-set-same (s .marks), marks-in) (omega arith)
+      low q m (no n) = rw (getD-set-other queues p q (queueOf queues p ++ (it ∷ [])) [] n, getD-set-other (s .marks), n) (k .below q m)
+
+      high : (q : ℕ) → q < 8 → Dec (q ≡ p) → markOf after q ≤ sizeOf t q
+      high q m (yes x) = rw (x, getD-set-same (s .marks), marks-in) (omega (arith, grown, k .within p p-below))
+      high q m (no n) = rw (getD-set-other (s .marks), n) (k .within q m)
 
 -- ---- a report
 module _ (t : Table) (valid : Valid t) (s : Port) (log : List Entry) (k : Invariant t s log) where

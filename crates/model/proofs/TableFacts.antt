@@ -72,7 +72,7 @@ sizes-fit sizes pass =
 -- ---- the checks of a table
 
 module _ (most : ℕ) (h : 6 ≤ most) where
-  links-numbered : (lines : ℕ) (previous : Option ℕ) (links : List VirtualLink) → Numbered most (linksChecks lines previous links)
+  pub links-numbered : (lines : ℕ) (previous : Option ℕ) (links : List VirtualLink) → Numbered most (linksChecks lines previous links)
   unfolding linksChecks
   links-numbered lines previous [] = tt
   links-numbered lines previous (v ∷ links) =

@@ -1,0 +1,12 @@
+pub mod Shape
+pub mod Ranges
+pub mod Refusals
+pub mod Links
+pub mod Laid
+pub mod Numbers
+pub mod Written
+pub mod Answers
+pub mod Due
+pub mod Cases
+pub mod ReadSteps
+pub mod Shown

@@ -1,0 +1,71 @@
+-- The arrays of a table record have their lengths, and the view goes by their entries.
+use mathlib.Core.Path.{_≡_, refl, sym, ap, _∙_}
+use mathlib.Core.List.{List, [], _∷_, map}
+use Prim.Native.Nat.{ℕ, zero, suc, _+_, _≤_, _<_}
+use native.Mathlib.Omega.{arith}
+use lib.ListN.{length, getD, length-map}
+use mir.Val.{Val}
+use denote.Laws.{Is}
+use denote.Shadow.{shadow}
+use denote.Array.{Array, each}
+use denote.Struct.Declared.{row}
+use denote.Struct.Field.{u16-field, u32-field}
+use Rattle.model.specs.Basics.{entries}
+use Rattle.model.specs.Link.{VirtualLink, blankLink}
+use Rattle.table.specs.declared.VirtualLink.{VirtualLink as LinkFields}
+use Rattle.table.specs.declared.Table.{Table as TableRecord}
+use Rattle.table.specs.View.{linkOf, fieldsOf, blankFields, joined, linksOf, viewOf}
+use Rattle.table.proofs.VirtualLink.{the-field as link-field}
+use Rattle.table.proofs.Table.{the-type}
+
+pub record Sized (t : TableRecord) : Type 0 where
+  pub numbers : length (t .numbers) ≡ 256
+  pub links : length (t .links) ≡ 256
+  pub sizes : length (t .sizes) ≡ 8
+
+pub sized : (t : TableRecord) (vs : List Val) → Is (row the-type) t vs → Sized t
+sized t vs p =
+    record {
+      numbers = sym (length-map (t .numbers) (u16-field .into)) ∙ p .1 .1 .1 .1 .0 .1 .0 .1;
+      links = sym (length-map (t .links) (link-field .into)) ∙ p .1 .1 .1 .1 .1 .0 .1 .0 .1;
+      sizes = sym (length-map (t .sizes) (u32-field .into)) ∙ p .1 .1 .1 .1 .1 .1 .0 .1 .0 .1;
+    }
+
+-- ---- the view
+length-entries {ℓ} : {A : Type ℓ} (b : A) (n : ℕ) (l : List A) → length (entries b n l) ≡ n
+unfolding entries
+length-entries b zero l = refl
+length-entries b (suc n) [] = ap suc (length-entries b n [])
+length-entries b (suc n) (x ∷ l) = ap suc (length-entries b n l)
+
+getD-blank {ℓ} : {A : Type ℓ} (b : A) (n i : ℕ) → getD (entries b n []) i b ≡ b
+unfolding entries
+getD-blank b zero i = refl
+getD-blank b (suc n) zero = refl
+getD-blank b (suc n) (suc i) = getD-blank b n i
+
+getD-entries {ℓ} : {A : Type ℓ} (b : A) (n : ℕ) (l : List A) (i : ℕ) → i < n → getD (entries b n l) i b ≡ getD l i b
+unfolding entries
+getD-entries b zero l i h = absurd (omega arith)
+getD-entries b (suc n) [] zero h = refl
+getD-entries b (suc n) [] (suc i) h = getD-blank b n i
+getD-entries b (suc n) (x ∷ l) zero h = refl
+getD-entries b (suc n) (x ∷ l) (suc i) h = getD-entries b n l i (omega arith)
+
+getD-joined : (numbers : List ℕ) (links : List LinkFields) (i : ℕ) → i < length numbers → i < length links →
+    getD (joined numbers links) i blankLink ≡ linkOf (getD numbers i 0) (getD links i blankFields)
+unfolding joined
+getD-joined [] links i h k = absurd (omega arith)
+getD-joined (n ∷ numbers) [] i h k = absurd (omega arith)
+getD-joined (n ∷ numbers) (v ∷ links) zero h k = refl
+getD-joined (n ∷ numbers) (v ∷ links) (suc i) h k = getD-joined numbers links i (omega arith) (omega arith)
+
+pub count-shown : (t : TableRecord) → length (linksOf t) ≡ t .count
+unfolding linksOf
+count-shown t = length-entries blankLink (t .count) (joined (t .numbers) (t .links))
+
+pub link-shown : (t : TableRecord) (i : ℕ) → Sized t → i < t .count → t .count ≤ 256 → getD (linksOf t) i blankLink ≡ linkOf (getD (t .numbers) i 0) (getD (t .links) i blankFields)
+unfolding linksOf
+link-shown t i s h k =
+    getD-entries blankLink (t .count) (joined (t .numbers) (t .links)) i h
+    ∙ getD-joined (t .numbers) (t .links) i (omega arith) (omega arith)

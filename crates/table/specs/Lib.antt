@@ -1,0 +1,4 @@
+pub mod View
+pub mod Checks
+pub mod Output
+pub mod Records

@@ -1,0 +1,51 @@
+-- The table record of the code and the table of the model: the view of a record, and the record of a table.
+use mathlib.Core.List.{List, [], _∷_, map}
+use Prim.Native.Nat.{ℕ, zero, suc}
+use lib.ListN.{length}
+use Rattle.model.specs.Basics.{entries}
+use Rattle.model.specs.Link.{VirtualLink, blankLink}
+use Rattle.model.specs.Table.{Table}
+use Rattle.table.specs.declared.VirtualLink.{VirtualLink as LinkFields}
+use Rattle.table.specs.declared.Table.{Table as TableRecord}
+
+-- a link is its number and its fields, which the record keeps apart
+abbrev pub linkOf : ℕ → LinkFields → VirtualLink
+linkOf number v =
+    record {
+      number = number;
+      line = v .line;
+      priority = v .priority;
+      code = v .code;
+      least = v .least;
+      greatest = v .greatest;
+      jitter = v .jitter;
+    }
+
+abbrev pub fieldsOf : VirtualLink → LinkFields
+fieldsOf v = record { line = v .line; priority = v .priority; code = v .code; least = v .least; greatest = v .greatest; jitter = v .jitter }
+
+abbrev pub blankFields : LinkFields
+blankFields = fieldsOf blankLink
+
+unfoldable pub joined : List ℕ → List LinkFields → List VirtualLink
+joined [] links = []
+joined (n ∷ numbers) [] = []
+joined (n ∷ numbers) (v ∷ links) = linkOf n v ∷ joined numbers links
+
+-- "Entries of a record behind its counts are no part of a table": the first count entries
+unfoldable pub linksOf : TableRecord → List VirtualLink
+linksOf t = entries blankLink (t .count) (joined (t .numbers) (t .links))
+
+unfoldable pub viewOf : TableRecord → Table
+viewOf t = record { lines = t .lines; links = linksOf t; sizes = t .sizes }
+
+-- the record of a table: blank entries stand behind its count
+unfoldable pub recordOf : Table → TableRecord
+recordOf t =
+    record {
+      lines = t .lines;
+      count = length (t .links);
+      numbers = entries 0 256 (map (λ (v : VirtualLink). v .number) (t .links));
+      links = entries blankFields 256 (map fieldsOf (t .links));
+      sizes = t .sizes;
+    }

@@ -1,0 +1,63 @@
+// Numbers in bytes, the lowest byte first.
+ghost use mathlib.Core.Path.{_≡_};
+ghost use Prim.Native.Nat.{_+_, _≤_};
+ghost use lib.ListN.{length};
+ghost use Rattle.model.specs.TableFile.{toBytes, numberAt};
+ghost use Rattle.table.specs.Output.{laid};
+
+pub(crate) fn wide16(x: u8) -> u16
+    ensures { λ r. ⌜ (r ≡ x) × (r ≤ 255) ⌝ }
+{
+    x as u16
+}
+
+fn wide32(x: u16) -> u32
+    ensures { λ r. ⌜ (r ≡ x) × (r ≤ 65535) ⌝ }
+{
+    x as u32
+}
+
+pub(crate) fn wide_size(x: u16) -> usize
+    ensures { λ r. ⌜ (r ≡ x) × (r ≤ 65535) ⌝ }
+{
+    x as usize
+}
+
+pub(crate) fn put1(s: &mut [u8], at: usize, x: u8)
+    requires { ⌜ at + 1 ≤ length (now s) ⌝ }
+    ensures { λ _. ⌜ now (s .exit) ≡ laid at (toBytes 1 x) (now (s .entry)) ⌝ }
+{
+    s[at] = x;
+}
+
+pub(crate) fn put2(s: &mut [u8], at: usize, x: u16)
+    requires { ⌜ at + 2 ≤ length (now s) ⌝ }
+    ensures { λ _. ⌜ now (s .exit) ≡ laid at (toBytes 2 x) (now (s .entry)) ⌝ }
+{
+    s[at] = (x % 256) as u8;
+    s[at + 1] = (x / 256) as u8;
+}
+
+pub(crate) fn put4(s: &mut [u8], at: usize, x: u32)
+    requires { ⌜ at + 4 ≤ length (now s) ⌝ }
+    ensures { λ _. ⌜ now (s .exit) ≡ laid at (toBytes 4 x) (now (s .entry)) ⌝ }
+{
+    s[at] = (x % 256) as u8;
+    s[at + 1] = (x / 256 % 256) as u8;
+    s[at + 2] = (x / 65536 % 256) as u8;
+    s[at + 3] = (x / 16777216) as u8;
+}
+
+pub(crate) fn number2(s: &[u8], at: usize) -> u16
+    requires { ⌜ at + 2 ≤ length (now s) ⌝ }
+    ensures { λ r. ⌜ r ≡ numberAt at 2 (now (s .entry)) ⌝ }
+{
+    wide16(s[at]) + 256 * wide16(s[at + 1])
+}
+
+pub(crate) fn number4(s: &[u8], at: usize) -> u32
+    requires { ⌜ at + 4 ≤ length (now s) ⌝ }
+    ensures { λ r. ⌜ r ≡ numberAt at 4 (now (s .entry)) ⌝ }
+{
+    wide32(number2(s, at)) + 65536 * wide32(number2(s, at + 2))
+}

@@ -1,0 +1,108 @@
+// The checks of a table: counts (3), each link (4, then 5), sizes (6).
+use crate::Table;
+use crate::VirtualLink;
+use crate::bytes;
+ghost use mathlib.Core.Path.{_≡_};
+ghost use mathlib.Core.Bool.{true};
+ghost use mathlib.Core.Option.{none};
+ghost use Prim.Native.Nat.{ℕ, _≤_};
+ghost use Rattle.model.specs.Basics.{firstMet};
+ghost use Rattle.model.specs.Table.{countsInRange, fieldsInRange, linkChecks, linksChecks, sizeChecks};
+ghost use Rattle.table.specs.View.{linkOf, linksOf};
+ghost use Rattle.table.specs.Checks.{previousOf};
+
+pub(crate) fn counts_in_range(lines: u16, count: u16) -> bool
+    ensures { λ r. ⌜ r ≡ countsInRange lines count ⌝ }
+{
+    if lines < 1 {
+        return false;
+    }
+    if 24 < lines {
+        return false;
+    }
+    if count < 1 {
+        return false;
+    }
+    count <= 256
+}
+
+// The range of a number is that of its type.
+fn fields_in_range(lines: u16, link: VirtualLink) -> bool
+    ensures { λ r. ⌜ ((n : ℕ) → n ≤ 65535 → r ≡ fieldsInRange lines (linkOf n link)) ⌝ }
+{
+    if lines <= bytes::wide16(link.line) {
+        return false;
+    }
+    if 7 < link.priority {
+        return false;
+    }
+    if 7 < link.code {
+        return false;
+    }
+    if link.least < 84 {
+        return false;
+    }
+    if link.greatest < link.least {
+        return false;
+    }
+    if 1538 < link.greatest {
+        return false;
+    }
+    link.jitter <= 125000
+}
+
+// 4, then 5. The link has so many before it, the last of them with the previous number.
+pub(crate) fn link_refusal(
+    lines: u16,
+    before: usize,
+    previous: u16,
+    number: u16,
+    link: VirtualLink,
+) -> u32
+    ensures { λ r. ⌜ r ≡ firstMet (linkChecks lines (previousOf before previous) (linkOf number link)) ⌝ }
+{
+    if !fields_in_range(lines, link) {
+        return 4;
+    }
+    if before == 0 {
+        return 0;
+    }
+    if number <= previous {
+        return 5;
+    }
+    0
+}
+
+// The first check from 4 to 5 that a link of the table meets.
+pub(crate) fn links_refusal(t: Table) -> u32
+    requires { ⌜ countsInRange (t .lines) (t .count) ≡ true ⌝ }
+    ensures { λ r. ⌜ r ≡ firstMet (linksChecks (t .lines) none (linksOf t)) ⌝ }
+{
+    let n = t.count as usize;
+    let mut previous: u16 = 0;
+    let mut i: usize = 0;
+    while i < n {
+        let number = t.numbers[i];
+        let link = t.links[i];
+        let refused = link_refusal(t.lines, i, previous, number, link);
+        if refused != 0 {
+            return refused;
+        }
+        previous = number;
+        i += 1;
+    }
+    0
+}
+
+pub(crate) fn sizes_refusal(sizes: [u32; 8]) -> u32
+    ensures { λ r. ⌜ r ≡ firstMet (sizeChecks sizes) ⌝ }
+{
+    let mut i: usize = 0;
+    while i < 8 {
+        if 16384 < sizes[i] {
+            return 6;
+        }
+        i += 1;
+    }
+    0
+}
