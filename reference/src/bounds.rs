@@ -1,0 +1,171 @@
+//! The paper's "Bounds and holds", formula by formula, with a loop over every w.
+
+use crate::table::{bag, check, Link, Table};
+
+/// The smallest and the largest w that can be a hold.
+const HOLDS: std::ops::RangeInclusive<u64> = 1..=65_536;
+
+/// "For w ≥ 0, N_v(w) = 1 + floor((w + J) / B)."
+fn frames(link: &Link, w: u64) -> u64 {
+    1 + (w + u64::from(link.jitter)) / bag(link.code)
+}
+
+/// A set of virtual links: for each line, its members there.
+struct Set {
+    by_line: Vec<Vec<Link>>,
+}
+
+impl Set {
+    fn new(table: &Table, is_member: impl Fn(&Link) -> bool) -> Set {
+        let mut by_line = vec![Vec::new(); table.lines as usize];
+        for link in table.members() {
+            if is_member(link) {
+                by_line[link.line as usize].push(*link);
+            }
+        }
+        Set { by_line }
+    }
+
+    /// "A(w) is the sum over lines of the smaller of: the sum of L × N_v(w) over its members on that
+    /// line; and w plus the greatest L of those members (serialization). A line without members adds 0."
+    fn arrivals(&self, w: u64) -> u64 {
+        let mut sum = 0;
+        for members in &self.by_line {
+            let asked: u64 = members.iter().map(|v| u64::from(v.greatest) * frames(v, w)).sum();
+            let carried = members.iter().map(|v| w + u64::from(v.greatest)).max().unwrap_or(0);
+            sum += asked.min(carried);
+        }
+        sum
+    }
+}
+
+/// The greatest L of the links that the test takes, or 0 if there are none.
+fn greatest(table: &Table, takes: impl Fn(&Link) -> bool) -> u64 {
+    table.members().iter().filter(|v| takes(v)).map(|v| u64::from(v.greatest)).max().unwrap_or(0)
+}
+
+/// "b is the greatest L of priorities above p in number, less 1, or 0 if there are none."
+fn blocking(table: &Table, p: u8) -> u64 {
+    greatest(table, |v| v.priority > p).saturating_sub(1)
+}
+
+/// "hold_p is the smallest w from 1 to 65,536 with b + A_up(w − 1) ≤ w."
+fn hold(table: &Table, p: u8) -> Option<u64> {
+    let up = Set::new(table, |v| v.priority <= p);
+    let b = blocking(table, p);
+    HOLDS.into_iter().find(|w| b + up.arrivals(w - 1) <= *w)
+}
+
+/// "bound_p is the greatest, over w from 0 to hold_p − 1, of the smaller of A_p(w) and
+/// A_up(w) − max(0, w − b) + M − 1. With no link of priority p it is 0."
+fn bound(table: &Table, p: u8, hold: u64) -> u64 {
+    let own = Set::new(table, |v| v.priority == p);
+    let up = Set::new(table, |v| v.priority <= p);
+    let b = blocking(table, p);
+    let m = greatest(table, |v| v.priority == p);
+    if m == 0 {
+        return 0;
+    }
+    let mut found = 0;
+    for w in 0..hold {
+        let left = up.arrivals(w) - w.saturating_sub(b) + m - 1;
+        found = found.max(own.arrivals(w).min(left));
+    }
+    found
+}
+
+#[derive(Clone, Copy, Debug, PartialEq, Eq)]
+pub struct Bounds {
+    pub bounds: [u64; 8],
+    pub holds: [u64; 8],
+}
+
+/// "bounds: 3 to 6, then no hold: 8." "If any of the eight has none, the table has no bounds (8)."
+pub fn bounds(table: &Table) -> Result<Bounds, u32> {
+    let refusal = check(table);
+    if refusal != 0 {
+        return Err(refusal);
+    }
+    let mut found = Bounds { bounds: [0; 8], holds: [0; 8] };
+    for p in 0..8 {
+        found.holds[p] = hold(table, p as u8).ok_or(8u32)?;
+    }
+    for p in 0..8 {
+        found.bounds[p] = bound(table, p as u8, found.holds[p]);
+    }
+    Ok(found)
+}
+
+#[cfg(test)]
+mod tests {
+    use super::*;
+    use crate::cases::make::table_of;
+    use crate::examples::{link, table_e};
+
+    fn both(lines: u16, links: &[Link], p: usize) -> (u64, u64) {
+        let found = bounds(&table_of(lines, links, [0; 8])).expect("a table with bounds");
+        (found.bounds[p], found.holds[p])
+    }
+
+    #[test]
+    fn a_and_b() {
+        let found = bounds(&table_e()).expect("a table with bounds");
+        assert_eq!(found.bounds, [500, 1_000, 0, 0, 0, 0, 0, 0]);
+        assert_eq!(found.holds, [1_499, 1_500, 1_500, 1_500, 1_500, 1_500, 1_500, 1_500]);
+    }
+
+    #[test]
+    fn g_and_h() {
+        let on = |line| link(u16::from(line), line, 0, 200);
+        let one_line = [0, 1, 2].map(|number| Link { line: 0, ..on(number) });
+        assert_eq!(both(1, &one_line, 0), (399, 600));
+        assert_eq!(both(3, &[on(0), on(1), on(2)], 0).0, 600);
+    }
+
+    /// 42 links of 1,538 and one of another length, code 7, on one line.
+    fn forty_three(last: u16) -> Table {
+        let mut links: Vec<Link> =
+            (0..43).map(|number| Link { code: 7, ..link(number, 0, 0, 1_538) }).collect();
+        links[42].greatest = last;
+        table_of(1, &links, [0; 8])
+    }
+
+    #[test]
+    fn i_and_j() {
+        assert_eq!(bounds(&forty_three(940)).expect("a table with bounds").holds[0], 65_536);
+        assert_eq!(bounds(&forty_three(941)), Err(8));
+    }
+
+    #[test]
+    fn k() {
+        let late = Link { jitter: 12_400, ..link(1, 0, 0, 100) };
+        assert_eq!(both(1, &[late], 0), (100, 100));
+    }
+
+    #[test]
+    fn l() {
+        let mut links: Vec<Link> = (1..9).map(|number| link(number, 0, 1, 200)).collect();
+        links.insert(0, link(0, 0, 0, 1_000));
+        assert_eq!(both(1, &links, 1), (1_199, 2_600));
+    }
+
+    #[test]
+    fn a_table_that_fails_a_check_has_no_bounds() {
+        let mut table = table_e();
+        table.sizes[7] = 16_385;
+        assert_eq!(bounds(&table), Err(6));
+        let mut overloaded = forty_three(941);
+        overloaded.links[42].priority = 8;
+        assert_eq!(bounds(&overloaded), Err(4));
+    }
+
+    #[test]
+    fn frames_at_the_edges() {
+        let early = link(1, 0, 0, 100);
+        assert_eq!(frames(&early, 0), 1);
+        assert_eq!(frames(&early, 12_499), 1);
+        assert_eq!(frames(&early, 12_500), 2);
+        let late = Link { jitter: 125_000, ..early };
+        assert_eq!(frames(&late, 0), 11);
+    }
+}

@@ -1,0 +1,190 @@
+//! The cases of the bounds and the sheet: table files, each with the text of its sheet.
+//!
+//! Standard input is a run of cases: length (2 bytes, little-endian), and as many bytes of a table file.
+//! Standard output has the sheets, one after the other.
+
+use super::{make, Cases};
+use crate::bounds::bounds;
+use crate::examples::{link, table_e};
+use crate::random::Random;
+use crate::sheet::sheet;
+use crate::table::{bytes_of, Link, Table};
+
+/// How the random tables of a family are drawn.
+struct Family {
+    tables: usize,
+    links: (u64, u64),
+    lines: (u64, u64),
+    codes: (u64, u64),
+    /// Jitter is drawn up to this.
+    jitter: u64,
+    /// The greatest lengths are drawn up to this.
+    length: u64,
+}
+
+const FAMILIES: [Family; 13] = [
+    // Few links.
+    Family { tables: 80, links: (1, 4), lines: (1, 3), codes: (0, 7), jitter: 0, length: 1_538 },
+    Family { tables: 60, links: (1, 6), lines: (1, 24), codes: (0, 7), jitter: 125_000, length: 1_538 },
+    Family { tables: 40, links: (3, 8), lines: (1, 1), codes: (0, 2), jitter: 30_000, length: 400 },
+    // Busy: long holds, or none.
+    Family { tables: 30, links: (6, 12), lines: (1, 12), codes: (0, 1), jitter: 12_500, length: 1_538 },
+    Family { tables: 20, links: (8, 14), lines: (2, 24), codes: (0, 0), jitter: 0, length: 1_538 },
+    Family { tables: 16, links: (13, 20), lines: (1, 24), codes: (0, 0), jitter: 2_000, length: 1_538 },
+    Family { tables: 10, links: (30, 50), lines: (2, 24), codes: (2, 3), jitter: 60_000, length: 1_100 },
+    Family { tables: 10, links: (50, 70), lines: (24, 24), codes: (2, 4), jitter: 60_000, length: 800 },
+    // The usual: some tens of links.
+    Family { tables: 40, links: (15, 40), lines: (1, 24), codes: (2, 7), jitter: 5_000, length: 1_538 },
+    Family { tables: 16, links: (15, 40), lines: (1, 24), codes: (0, 7), jitter: 125_000, length: 300 },
+    // Large.
+    Family { tables: 6, links: (80, 110), lines: (24, 24), codes: (3, 7), jitter: 20_000, length: 500 },
+    Family { tables: 4, links: (256, 256), lines: (24, 24), codes: (5, 7), jitter: 125_000, length: 250 },
+    Family { tables: 4, links: (256, 256), lines: (1, 1), codes: (5, 7), jitter: 125_000, length: 240 },
+];
+
+/// A good file, or one damaged: every table leaves at least one priority unused.
+fn files() -> Vec<Vec<u8>> {
+    let mut random = Random::new(2_024_003);
+    let mut files: Vec<Vec<u8>> = named().iter().map(bytes_of).collect();
+    for family in &FAMILIES {
+        for i in 0..family.tables {
+            let mut table = draw(&mut random, family);
+            if i % 3 == 0 && table.count < 50 {
+                fit_sizes(&mut random, &mut table);
+            }
+            files.push(bytes_of(&table));
+        }
+    }
+    for i in 0..48 {
+        let table = draw(&mut random, &FAMILIES[2]);
+        files.push(damaged(&mut random, &table, i % 6));
+    }
+    files.push(Vec::new());
+    let mut long = bytes_of(&draw(&mut random, &FAMILIES[11]));
+    long.push(0);
+    files.push(long.clone());
+    long.resize(5_000, 7);
+    files.push(long);
+    files
+}
+
+fn forty_three(last: u16) -> Table {
+    let mut links: Vec<Link> = (0..43).map(|number| Link { code: 7, ..link(number, 0, 0, 1_538) }).collect();
+    links[42].greatest = last;
+    make::table_of(1, &links, [16_384, 0, 1, 2, 3, 0, 0, 16_384])
+}
+
+/// Table E, the examples g to l, and their neighbours.
+fn named() -> Vec<Table> {
+    let three = [0, 1, 2].map(|number| link(number, 0, 0, 200));
+    let apart = [0, 1, 2].map(|number| link(number, number as u8, 0, 200));
+    let late = Link { jitter: 12_400, ..link(1, 0, 0, 100) };
+    let mut l: Vec<Link> = (1..9).map(|number| link(number, 0, 1, 200)).collect();
+    l.insert(0, link(0, 0, 0, 1_000));
+    let mut large = table_e();
+    large.sizes = [16_384; 8];
+    let mut small = table_e();
+    small.sizes = [500, 999, 1, 0, 0, 0, 0, 1];
+    let mut tables = vec![
+        table_e(),
+        large,
+        small,
+        make::table_of(1, &three, [399, 0, 0, 0, 0, 0, 0, 0]),
+        make::table_of(3, &apart, [599, 1, 0, 0, 0, 0, 0, 0]),
+        make::table_of(1, &[late], [99, 0, 0, 0, 0, 0, 0, 0]),
+        make::table_of(1, &l, [1_000, 1_199, 0, 0, 0, 0, 0, 0]),
+    ];
+    for last in [938, 939, 940, 941, 942] {
+        tables.push(forty_three(last));
+    }
+    for jitter in [12_300, 12_399, 12_400, 12_401, 12_500] {
+        tables.push(make::table_of(1, &[Link { jitter, ..late }], [100; 8]));
+    }
+    tables
+}
+
+fn draw(random: &mut Random, family: &Family) -> Table {
+    let used = make::priorities(random, 7);
+    let lines = random.from(family.lines.0, family.lines.1) as u16;
+    let many = random.from(family.links.0, family.links.1) as usize;
+    let mut links = Vec::new();
+    for number in make::numbers(random, many) {
+        let greatest = random.from(84, family.length) as u16;
+        links.push(Link {
+            number,
+            line: random.from(0, u64::from(lines) - 1) as u8,
+            priority: random.pick(&used),
+            code: random.from(family.codes.0, family.codes.1) as u8,
+            least: random.from(84, u64::from(greatest)) as u16,
+            greatest,
+            jitter: random.from(0, family.jitter) as u32,
+        });
+    }
+    let sizes = [(); 8].map(|()| make::size(random));
+    make::table_of(lines, &links, sizes)
+}
+
+/// Sizes at, just below and just above the bounds.
+fn fit_sizes(random: &mut Random, table: &mut Table) {
+    let Ok(found) = bounds(table) else {
+        return;
+    };
+    for p in 0..8 {
+        let near = found.bounds[p] + random.from(0, 2);
+        table.sizes[p] = near.saturating_sub(1).min(16_384) as u32;
+    }
+}
+
+/// A file of at least two links, damaged in a way of its own for each `way` from 0 to 5.
+fn damaged(random: &mut Random, table: &Table, way: usize) -> Vec<u8> {
+    let mut file = bytes_of(table);
+    let at = random.below(file.len());
+    match way {
+        0 => file.truncate(at),
+        1 => file.push(random.from(0, 255) as u8),
+        2 => file[random.pick(&[4, 5, 6, 7])] ^= 0x80,
+        3 => file.copy_within(12..14, 30),
+        4 => file[12 + random.from(2, 13) as usize] = 255,
+        _ => file[at] = random.from(0, 255) as u8,
+    }
+    file
+}
+
+pub fn cases() -> Cases {
+    let mut cases = Cases { stdin: Vec::new(), stdout: Vec::new(), summary: String::new() };
+    let mut refused = [0; 9];
+    for file in files() {
+        let text = sheet(&file);
+        match text.strip_prefix("refused ") {
+            Some(number) => refused[number.trim().parse::<usize>().expect("a number")] += 1,
+            None => refused[0] += 1,
+        }
+        cases.stdin.extend((file.len() as u16).to_le_bytes());
+        cases.stdin.extend(file);
+        cases.stdout.extend(text.as_bytes());
+    }
+    cases.summary = format!("tables: {} with bounds; refused 1 to 8: {:?}\n", refused[0], &refused[1..]);
+    cases
+}
+
+#[cfg(test)]
+mod tests {
+    use super::*;
+    use crate::table::read;
+
+    #[test]
+    fn there_are_enough_tables_and_each_leaves_a_priority_unused() {
+        let tables: Vec<Table> = files().iter().filter_map(|file| read(file).ok()).collect();
+        assert!(tables.len() >= 300);
+        let mut empty = 0;
+        let mut roomy = 0;
+        for table in &tables {
+            let unused: Vec<usize> =
+                (0..8).filter(|p| table.members().iter().all(|v| v.priority as usize != *p)).collect();
+            assert!(!unused.is_empty());
+            empty += u32::from(unused.iter().any(|p| table.sizes[*p] == 0));
+            roomy += u32::from(unused.iter().any(|p| table.sizes[*p] > 0));
+        }
+        assert!(empty > 50 && roomy > 50);
+    }
+}

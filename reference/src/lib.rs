@@ -1,0 +1,13 @@
+//! Another implementation of papers/01-scope.md: literal, slow, and sharing nothing with the product.
+//! It makes the cases that the product is run on, and what must come out.
+
+#![forbid(unsafe_code)]
+
+pub mod bounds;
+pub mod cases;
+pub mod examples;
+pub mod port;
+pub mod random;
+pub mod sheet;
+pub mod table;
+pub mod watch;

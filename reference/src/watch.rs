@@ -1,0 +1,206 @@
+//! Demand 3, watched: "The words of demand 3 go by the reports and their answers."
+
+use crate::bounds::Bounds;
+use crate::port::{Answer, Frame, Port, Report, DROPPED, FILTERED, POLICED, STORED};
+use crate::table::{bag, Link, Table};
+
+/// A report, what was answered, and its departures: number, length, tick freed.
+pub struct Entry {
+    pub report: Report,
+    pub answer: Result<Answer, u32>,
+    pub departures: Vec<[u64; 3]>,
+}
+
+/// What the reports and answers so far tell.
+pub struct Watch<'a> {
+    table: &'a Table,
+    bounds: &'a Bounds,
+    /// The held frames, oldest first.
+    held: Vec<Frame>,
+    /// "What it has held are these sums at the start, where they are 0, and after each report": the most.
+    most: [u64; 8],
+    /// For each link, the ticks of "its frames in accepted reports that the filter lets through, in order".
+    ticks: Vec<Vec<u64>>,
+}
+
+impl<'a> Watch<'a> {
+    pub fn new(table: &'a Table, bounds: &'a Bounds) -> Watch<'a> {
+        let ticks = vec![Vec::new(); table.count as usize];
+        Watch { table, bounds, held: Vec::new(), most: [0; 8], ticks }
+    }
+
+    fn place(&self, number: u64) -> Option<usize> {
+        self.table.members().iter().position(|v| u64::from(v.number) == number)
+    }
+
+    fn priority(&self, number: u64) -> Option<usize> {
+        self.place(number).map(|i| usize::from(self.table.links[i].priority))
+    }
+
+    fn held_of(&self, p: usize) -> Vec<Frame> {
+        self.held.iter().filter(|frame| self.priority(frame.number) == Some(p)).copied().collect()
+    }
+
+    /// Takes one more report, and says what it breaks.
+    pub fn take(&mut self, entry: &Entry) -> Result<(), String> {
+        // "A report is accepted if it is not refused."
+        let Ok(answer) = entry.answer else {
+            return Ok(());
+        };
+        for departure in &entry.departures {
+            self.leave(departure)?;
+        }
+        self.arrive(&entry.report, answer.verdict)?;
+        self.holds(entry.report.tick)
+    }
+
+    /// "its departures come first: each takes away the oldest held frame of its number"
+    fn leave(&mut self, departure: &[u64; 3]) -> Result<(), String> {
+        let [number, length, _] = *departure;
+        let Some(at) = self.held.iter().position(|frame| frame.number == number) else {
+            return Err(format!("a frame of {number} left, and none was held"));
+        };
+        let frame = self.held.remove(at);
+        if frame.length != length {
+            return Err(format!("a frame of {number} left with {length} bytes, and had {}", frame.length));
+        }
+        Ok(())
+    }
+
+    /// "Then its frame, if stored, is held." "A frame passed the police check if its report was accepted
+    /// with a verdict other than 1 and 2."
+    fn arrive(&mut self, report: &Report, verdict: u64) -> Result<(), String> {
+        let Some(frame) = report.frame else {
+            return Ok(());
+        };
+        if verdict == FILTERED {
+            return Ok(());
+        }
+        let Some(i) = self.place(frame.number) else {
+            return Err(format!("a frame of {} was let through, and there is no such link", frame.number));
+        };
+        let link = &self.table.links[i];
+        let p = usize::from(link.priority);
+        self.ticks[i].push(report.tick);
+        match verdict {
+            STORED => {
+                self.held.push(Frame { number: frame.number, length: frame.length, arrival: report.tick });
+                Ok(())
+            }
+            POLICED if keeps(link, &self.ticks[i]) => {
+                Err(format!("link {} keeps BAG and jitter, and was policed at {}", frame.number, report.tick))
+            }
+            DROPPED if u64::from(self.table.sizes[p]) >= self.bounds.bounds[p] => {
+                Err(format!("a frame of {} that passed was dropped at {}", frame.number, report.tick))
+            }
+            _ => Ok(()),
+        }
+    }
+
+    /// No buffer holds more than its bound; and no frame stored at t is held after an accepted report at
+    /// t plus the hold of its priority or later.
+    fn holds(&mut self, tick: u64) -> Result<(), String> {
+        for p in 0..8 {
+            let frames = self.held_of(p);
+            // "A buffer's held bytes are the sum of the lengths of the held frames of its priority."
+            let bytes: u64 = frames.iter().map(|frame| frame.length).sum();
+            if bytes > self.bounds.bounds[p] {
+                return Err(format!("priority {p} holds {bytes} at {tick}"));
+            }
+            if frames.iter().any(|frame| tick >= frame.arrival + self.bounds.holds[p]) {
+                return Err(format!("priority {p} holds a frame for too long at {tick}"));
+            }
+            self.most[p] = self.most[p].max(bytes);
+        }
+        Ok(())
+    }
+
+    /// Each queue is the held frames of its priority, and each mark the most that its buffer has held.
+    pub fn compare(&self, port: &Port) -> Result<(), String> {
+        for p in 0..8 {
+            if port.queues[p].frames != self.held_of(p) {
+                return Err(format!("queue {p} is not what is held"));
+            }
+            if port.queues[p].mark != self.most[p] {
+                return Err(format!("mark {p} is not the most that was held"));
+            }
+        }
+        Ok(())
+    }
+
+    /// How many used buffers have held as much as their bound.
+    pub fn reached(&self) -> usize {
+        (0..8).filter(|p| self.most[*p] > 0 && self.most[*p] == self.bounds.bounds[*p]).count()
+    }
+}
+
+/// "the i-th and (i + j)-th at least j × B − J ticks apart, for all i and j from 1"
+fn keeps(link: &Link, ticks: &[u64]) -> bool {
+    let b = bag(link.code);
+    let jitter = u64::from(link.jitter);
+    (0..ticks.len()).all(|i| (1..ticks.len() - i).all(|j| ticks[i + j] - ticks[i] + jitter >= j as u64 * b))
+}
+
+#[cfg(test)]
+mod tests {
+    use super::*;
+    use crate::bounds::bounds;
+    use crate::examples::{link, table_e};
+    use crate::port::Arrival;
+
+    fn entry(tick: u64, number: u64, length: u64, verdict: u64, departures: &[[u64; 3]]) -> Entry {
+        let line = number - 1;
+        let bytes = departures.iter().map(|d| d[1]).sum();
+        Entry {
+            report: Report { tick, frame: Some(Arrival { line, number, length }) },
+            answer: Ok(Answer { verdict, frames: departures.len() as u64, bytes }),
+            departures: departures.to_vec(),
+        }
+    }
+
+    fn watched(table: &Table, entries: &[Entry]) -> Result<(), String> {
+        let found = bounds(table).expect("a table with bounds");
+        let mut watch = Watch::new(table, &found);
+        entries.iter().try_for_each(|entry| watch.take(entry))
+    }
+
+    #[test]
+    fn what_is_as_demanded() {
+        let first = entry(1_000, 1, 500, STORED, &[]);
+        let second = entry(13_500, 1, 500, STORED, &[[1, 500, 1_500]]);
+        assert_eq!(watched(&table_e(), &[first, second]), Ok(()));
+    }
+
+    #[test]
+    fn each_breach_is_seen() {
+        let first = || entry(1_000, 1, 500, STORED, &[]);
+        let none_held = [first(), entry(13_500, 1, 500, STORED, &[[2, 500, 1_500]])];
+        assert!(watched(&table_e(), &none_held).is_err());
+        let other_length = [first(), entry(13_500, 1, 500, STORED, &[[1, 499, 1_500]])];
+        assert!(watched(&table_e(), &other_length).is_err());
+        let too_much = [first(), entry(1_500, 1, 84, STORED, &[])];
+        assert!(watched(&table_e(), &too_much).is_err());
+        let still_held = [first(), entry(2_499, 2, 1_000, STORED, &[])];
+        assert!(watched(&table_e(), &still_held).is_err());
+        let just_held = [first(), entry(2_498, 2, 1_000, STORED, &[])];
+        assert!(watched(&table_e(), &just_held).is_ok());
+        assert!(watched(&table_e(), &[entry(1_000, 1, 500, DROPPED, &[])]).is_err());
+        let mut small = table_e();
+        small.sizes[0] = 499;
+        assert!(watched(&small, &[entry(1_000, 1, 500, DROPPED, &[])]).is_ok());
+        assert!(watched(&table_e(), &[entry(1_000, 1, 500, POLICED, &[])]).is_err());
+        let keeping = [first(), entry(13_500, 1, 500, POLICED, &[[1, 500, 1_500]])];
+        assert!(watched(&table_e(), &keeping).is_err());
+        let breaking = [first(), entry(13_499, 1, 500, POLICED, &[[1, 500, 1_500]])];
+        assert!(watched(&table_e(), &breaking).is_ok());
+    }
+
+    #[test]
+    fn keeping() {
+        let late = Link { jitter: 100, ..link(1, 0, 0, 500) };
+        assert!(keeps(&late, &[]));
+        assert!(keeps(&late, &[5, 12_405, 25_000]));
+        assert!(!keeps(&late, &[5, 12_404]));
+        assert!(!keeps(&late, &[5, 12_405, 24_804]));
+    }
+}
