@@ -1,0 +1,36 @@
+-- A copy from what the reader and the writer answer.
+use mathlib.Core.Path.{_≡_, refl, ap, _∙_}
+use mathlib.Core.List.{List}
+use Prim.Native.Nat.{ℕ, zero, suc}
+use native.Mathlib.Omega.{arith}
+use Rattle.model.specs.Table.{Table}
+use Rattle.model.specs.TableFile.{Reading, readTable, Writing, writeTable}
+use Rattle.table.specs.declared.Reading.{Reading as ReadingRecord}
+use Rattle.table.specs.declared.Writing.{Writing as WritingRecord}
+use Rattle.table.specs.View.{viewOf, recordOf}
+use Rattle.table.specs.Records.{readingOf}
+use Rattle.table.specs.Output.{Wrote}
+use Rattle.table.proofs.Shown.{read-shown}
+use Rattle.table_c.specs.Copied.{copyOr, copyOf, Copied}
+
+refused-nothing : (n : ℕ) (t : Table) (output : List ℕ) → (n ≡ 0 → ⊥) → (copyOr n t output .written ≡ 0) × (copyOr n t output .output ≡ output)
+unfolding copyOr
+refused-nothing zero t output h = absurd (h refl)
+refused-nothing (suc n) t output h = (refl, refl)
+
+module _ (file before : List ℕ) (r : ReadingRecord) (e : r ≡ readingOf (readTable file)) where
+  refusal-is : r .refused ≡ readTable file .refused
+  refusal-is = ap (λ (x : ReadingRecord). x .refused) e
+
+  pub refused-copied : (r .refused ≡ 0 → ⊥) → Copied file before before 0
+  unfolding copyOf
+  refused-copied h =
+      let n = refused-nothing (readTable file .refused) (readTable file .table) before (λ x. h (cc refusal-is)) in
+      record { count = rw (n .0); output = rw (n .1) }
+
+  pub written-copied : r .refused ≡ 0 → (after : List ℕ) (w : WritingRecord) → Wrote (viewOf (r .table)) before after w → Copied file before after (w .written)
+  unfolding copyOf copyOr
+  written-copied z after w o =
+      let none : readTable file .refused ≡ 0 = cc refusal-is in
+      let same : viewOf (r .table) ≡ readTable file .table = ap (λ (x : ReadingRecord). viewOf (x .table)) e ∙ read-shown file in
+      record { count = rw none (rw same at (o .written)); output = rw none (rw same at (o .output)) }

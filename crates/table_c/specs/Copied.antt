@@ -1,0 +1,18 @@
+-- A file read and its table written again.
+use mathlib.Core.Path.{_≡_}
+use mathlib.Core.List.{List}
+use Prim.Native.Nat.{ℕ, zero, suc}
+use Rattle.model.specs.Table.{Table}
+use Rattle.model.specs.TableFile.{Reading, readTable, Writing, writeTable}
+
+-- the writer's answer, or with a refusal of the reader nothing written
+unfoldable pub copyOr : ℕ → Table → List ℕ → Writing
+copyOr zero t output = writeTable t output
+copyOr (suc n) t output = record { refused = suc n; written = 0; output = output }
+
+unfoldable pub copyOf : List ℕ → List ℕ → Writing
+copyOf file output = copyOr (readTable file .refused) (readTable file .table) output
+
+pub record Copied (file before after : List ℕ) (written : ℕ) : Type 0 where
+  pub count : written ≡ copyOf file before .written
+  pub output : after ≡ copyOf file before .output

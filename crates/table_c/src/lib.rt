@@ -1,0 +1,28 @@
+// The table's reader and writer on byte slices, for a host in C or Rust.
+ghost use mathlib.Core.Path.{_≡_};
+ghost use Rattle.model.specs.TableFile.{readTable};
+ghost use Rattle.table_c.specs.Copied.{Copied};
+
+// 0, or the number under which the file is refused: 1 to 7.
+#[no_mangle]
+pub extern "C" fn table_c_refusal(file: &[u8]) -> u32
+    ensures { λ r. ⌜ r ≡ readTable (now (file .entry)) .refused ⌝ }
+{
+    let reading = table::read(file);
+    reading.refused
+}
+
+// Reads the file and writes its table to the output; answers the bytes written.
+// With a refusal of the reader or the writer it answers 0 and writes to no byte.
+#[no_mangle]
+pub extern "C" fn table_c_copy(file: &[u8], out: &mut [u8]) -> usize
+    ensures { λ r. ⌜ Copied (now (file .entry)) (now (out .entry)) (now (out .exit)) r ⌝ }
+{
+    let reading = table::read(file);
+    if reading.refused != 0 {
+        return 0;
+    }
+    let t = reading.table;
+    let writing = table::write(t, out);
+    writing.written
+}
