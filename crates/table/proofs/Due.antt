@@ -10,7 +10,7 @@ use borrow.Author.Tests.{lt-ltb, le-ltb, eq-eqb, ne-eqb, le-leb, lt-leb}
 use lib.ListN.{length, getD}
 use Rattle.model.specs.Basics.{Check, check, firstMet}
 use Rattle.model.specs.Table.{countsInRange, countChecks, linkChecks, sizeChecks}
-use Rattle.model.specs.TableFile.{numberAt, headerChecks, linkRead, sizesRead}
+use Rattle.model.specs.TableFile.{numberAt, headerChecks, linkRead, sizesRead, countRecordChecks, linkRecordChecks, sizesRecordChecks}
 use Rattle.model.proofs.Checks.{Numbered, none-met}
 use Rattle.model.proofs.FileWrite.{header-fits}
 use Rattle.table.specs.declared.VirtualLink.{VirtualLink as LinkFields}
@@ -71,7 +71,7 @@ module _ (rest : List ℕ) (r : ℕ) (e : r ≡ firstMet (headerChecks 1 6 rest)
   counts = countChecks (numberAt 4 2 rest) (numberAt 6 2 rest)
 
   pub counts-header : (r ≡ 0 → ⊥) → said (Refused r) ≡ countsDue rest
-  unfolding countsDue counts
+  unfolding countsDue countRecordChecks counts
   counts-header z = said-refused (firstMet (headerChecks 1 6 rest ++ counts)) r _ (stops-in-front (headerChecks 1 6 rest) counts (header-numbered 1 6 rest) r e z) z
 
   module _ (z : r ≡ 0) (lines n : ℕ) (el : lines ≡ numberAt 4 2 rest) (en : n ≡ numberAt 6 2 rest) where
@@ -88,11 +88,11 @@ module _ (rest : List ℕ) (r : ℕ) (e : r ≡ firstMet (headerChecks 1 6 rest)
     in-none b = rw b
 
     pub counts-out : countsInRange lines n ≡ false → said (Refused 3) ≡ countsDue rest
-    unfolding countsDue counts
+    unfolding countsDue countRecordChecks counts
     counts-out b = said-refused (firstMet (headerChecks 1 6 rest ++ counts)) 3 _ (out-met b ∙ sym behind) (λ q. omega arith)
 
     pub counts-in : countsInRange lines n ≡ true → said (Counts lines n) ≡ countsDue rest
-    unfolding countsDue counts said
+    unfolding countsDue countRecordChecks counts said
     counts-in b = rw (el, en) (said-next (firstMet (headerChecks 1 6 rest ++ counts)) (saying 1 (numberAt 4 2 rest ∷ numberAt 6 2 rest ∷ [])) (behind ∙ in-none b))
 
 -- ---- a link
@@ -115,7 +115,7 @@ module _ (lines : ℕ) (previous : Option ℕ) (rest : List ℕ) (r : ℕ) (e : 
   body = check 4 (not (eqb (numberAt 9 1 rest) 0)) ∷ linkChecks lines previous (linkRead rest)
 
   pub link-header : (r ≡ 0 → ⊥) → said (Refused r) ≡ linkDue lines previous rest
-  unfolding linkDue body
+  unfolding linkDue linkRecordChecks body
   link-header z = said-refused (firstMet (headerChecks 2 16 rest ++ body)) r _ (stops-in-front (headerChecks 2 16 rest) body (header-numbered 2 16 rest) r e z) z
 
   module _ (z : r ≡ 0) where
@@ -130,7 +130,7 @@ module _ (lines : ℕ) (previous : Option ℕ) (rest : List ℕ) (r : ℕ) (e : 
     byte-met w = rw (ne-eqb (numberAt 9 1 rest) 0 (λ q. w (zero-byte ∙ q)))
 
     pub byte-set : (getD rest 9 0 ≡ 0 → ⊥) → said (Refused 4) ≡ linkDue lines previous rest
-    unfolding linkDue body
+    unfolding linkDue linkRecordChecks body
     byte-set w = said-refused (firstMet (headerChecks 2 16 rest ++ body)) 4 _ (byte-met w ∙ sym behind-header) (λ q. omega arith)
 
     module _ (w : getD rest 9 0 ≡ 0) (number : ℕ) (v : LinkFields) (a : number ≡ numberAt 4 2 rest) (b : v ≡ fieldsOf (linkRead rest))
@@ -141,11 +141,11 @@ module _ (lines : ℕ) (previous : Option ℕ) (rest : List ℕ) (r : ℕ) (e : 
           f ∙ sym (behind-header ∙ rw (eq-eqb (numberAt 9 1 rest) 0 (sym zero-byte ∙ w)) (ap (λ u. firstMet (linkChecks lines previous u)) (sym (link-whole rest number v a b))))
 
       pub link-out : (s ≡ 0 → ⊥) → said (Refused s) ≡ linkDue lines previous rest
-      unfolding linkDue body
+      unfolding linkDue linkRecordChecks body
       link-out y = said-refused (firstMet (headerChecks 2 16 rest ++ body)) s _ behind-byte y
 
       pub link-in : s ≡ 0 → said (Link number v) ≡ linkDue lines previous rest
-      unfolding linkDue body said
+      unfolding linkDue linkRecordChecks body said
       link-in y = ap (λ u. saying 2 (linkValues u)) (link-whole rest number v a b) ∙ said-next (firstMet (headerChecks 2 16 rest ++ body)) (saying 2 (linkValues (linkRead rest))) (sym behind-byte ∙ y)
 
 -- ---- sizes
@@ -166,7 +166,7 @@ module _ (rest : List ℕ) (r : ℕ) (e : r ≡ firstMet (headerChecks 3 34 rest
   regroup = append-assoc (headerChecks 3 34 rest) (sizeChecks (sizesRead rest)) left
 
   pub sizes-header : (r ≡ 0 → ⊥) → said (Refused r) ≡ sizesDue rest
-  unfolding sizesDue all-checks left
+  unfolding sizesDue sizesRecordChecks all-checks left
   sizes-header z =
       said-refused (firstMet all-checks) r _ (rw regroup (stops-in-front (headerChecks 3 34 rest) (sizeChecks (sizesRead rest) ++ left) (header-numbered 3 34 rest) r e z)) z
 
@@ -178,7 +178,7 @@ module _ (rest : List ℕ) (r : ℕ) (e : r ≡ firstMet (headerChecks 3 34 rest
     behind-header3 = rw regroup (goes-on-behind (headerChecks 3 34 rest) (sizeChecks (sizesRead rest) ++ left) (header-numbered 3 34 rest) r e z)
 
     pub sizes-out : (s ≡ 0 → ⊥) → said (Refused s) ≡ sizesDue rest
-    unfolding sizesDue all-checks left
+    unfolding sizesDue sizesRecordChecks all-checks left
     sizes-out y = said-refused (firstMet all-checks) s _ (stops-in-front (sizeChecks (sizesRead rest)) left (omega arith) s here y ∙ sym behind-header3) y
 
     module _ (y : s ≡ 0) where
@@ -194,12 +194,12 @@ module _ (rest : List ℕ) (r : ℕ) (e : r ≡ firstMet (headerChecks 3 34 rest
       left-none h = rw (le-ltb 36 (length rest) h)
 
       pub bytes-left : 36 < length rest → said (Refused 7) ≡ sizesDue rest
-      unfolding sizesDue all-checks left
+      unfolding sizesDue sizesRecordChecks all-checks left
       bytes-left h = said-refused (firstMet all-checks) 7 _ (left-met h ∙ sym behind-sizes) (λ p. omega arith)
 
       pub sizes-in : length rest ≤ 36 →
           said (Sizes (getD sizes 0 0) (getD sizes 1 0) (getD sizes 2 0) (getD sizes 3 0) (getD sizes 4 0) (getD sizes 5 0) (getD sizes 6 0) (getD sizes 7 0)) ≡ sizesDue rest
-      unfolding sizesDue all-checks left said sizesRead
+      unfolding sizesDue sizesRecordChecks all-checks left said sizesRead
       sizes-in h = rw q (said-next (firstMet all-checks) (saying 3 (sizesRead rest)) (behind-sizes ∙ left-none h))
 
 -- ---- which is due

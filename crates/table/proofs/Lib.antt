@@ -1,4 +1,5 @@
 pub mod Shape
+pub mod Bags
 pub mod Ranges
 pub mod Refusals
 pub mod Links

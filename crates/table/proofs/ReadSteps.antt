@@ -27,7 +27,7 @@ use Rattle.table.specs.View.{linkOf, fieldsOf, blankFields, recordOf}
 use Rattle.table.specs.Records.{Said, saying, linkValues, said, saidOr, countsDue, linkDue, sizesDue, dueAt, readingOf}
 use Rattle.table.proofs.Record.{the-type}
 use Rattle.table.proofs.Refusals.{previous-more}
-use Rattle.table.proofs.Due.{due-link, due-sizes}
+use Rattle.table.proofs.Due.{due-counts, due-link, due-sizes}
 
 -- ---- what an answer says of the checks
 said-goes : (s next : Said) (n : ℕ) → s ≡ saidOr n next → (s .kind ≡ 0 → ⊥) → (n ≡ 0) × (s ≡ next)
@@ -123,11 +123,11 @@ module _ (file : List ℕ) where
   unfolding readTable counts-met after-counts countRecordChecks
   counts-step = refl
 
-  counts-said : countsDue file ≡ saidOr counts-met (saying 1 (numberAt 4 2 file ∷ numberAt 6 2 file ∷ []))
+  counts-said : dueAt file 0 0 0 0 ≡ saidOr counts-met (saying 1 (numberAt 4 2 file ∷ numberAt 6 2 file ∷ []))
   unfolding countsDue counts-met countRecordChecks
-  counts-said = refl
+  counts-said = due-counts file 0 0 0 0 refl
 
-  pub counts-stop : (x : Record) (m : ℕ) (a : ReadingRecord) → said x ≡ countsDue file → OneOf (1 ∷ 2 ∷ 3 ∷ []) (tagOf the-type x) → m ≡ said x .refused →
+  pub counts-stop : (x : Record) (m : ℕ) (a : ReadingRecord) → said x ≡ dueAt file 0 0 0 0 → OneOf (1 ∷ 2 ∷ 3 ∷ []) (tagOf the-type x) → m ≡ said x .refused →
       a ≡ record { refused = m; table = recordOf blankTable } → a ≡ readingOf (readTable file)
   counts-stop x m a e o p f =
       stopped (readTable file) counts-met m after-counts (said x) (saying 1 (numberAt 4 2 file ∷ numberAt 6 2 file ∷ [])) a counts-step (e ∙ counts-said) (no-counts x o) p f
@@ -136,7 +136,7 @@ module _ (file : List ℕ) where
   unfolding counts-met countRecordChecks headerChecks
   counts-pass z = none-met 9 (countRecordChecks file) (omega arith) z
 
-  module _ (x : Record) (lines n : ℕ) (e : said x ≡ countsDue file) (q : x ≡ Counts lines n) where
+  module _ (x : Record) (lines n : ℕ) (e : said x ≡ dueAt file 0 0 0 0) (q : x ≡ Counts lines n) where
     kind-one : said x .kind ≡ 0 → ⊥
     unfolding said
     kind-one k = let z : _≡_ {A = ℕ} 1 0 = sym (ap (λ (y : Record). said y .kind) q) ∙ k in omega arith

@@ -63,7 +63,7 @@ record-laid kind len at body output x part e h p q =
     ∙ rw (← e)
   where
     header-four : (len kind : ℕ) → length (toBytes 2 len ++ toBytes 2 kind) ≡ 4
-    header-four len kind = rw (length-append, length-toBytes, length-toBytes)
+    header-four len kind = rw (length-append, length-toBytes 2 len, length-toBytes 2 kind)
 
 -- ---- one after another
 flat-append {ℓ} : {A : Type ℓ} (f : A → List ℕ) (a b : List A) → flatMap f (a ++ b) ≡ flatMap f a ++ flatMap f b

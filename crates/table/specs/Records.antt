@@ -1,14 +1,14 @@
 -- What the record reader answers, in the paper's numbers.
-use mathlib.Core.Bool.{Bool, true, false, cond, not}
+use mathlib.Core.Bool.{Bool, true, false, cond}
 use mathlib.Core.Option.{Option, none, some}
 use mathlib.Core.List.{List, [], _∷_, _++_}
 use Prim.Native.Nat.{ℕ, zero, suc, _-_}
-use lib.Dec.{eqb, leb, ltb}
+use lib.Dec.{eqb, leb}
 use lib.ListN.{length}
-use Rattle.model.specs.Basics.{check, firstMet}
+use Rattle.model.specs.Basics.{firstMet}
 use Rattle.model.specs.Link.{VirtualLink}
-use Rattle.model.specs.Table.{blankTable, countChecks, linkChecks, sizeChecks}
-use Rattle.model.specs.TableFile.{numberAt, headerChecks, linkRead, sizesRead, Reading}
+use Rattle.model.specs.Table.{blankTable}
+use Rattle.model.specs.TableFile.{numberAt, linkRead, sizesRead, countRecordChecks, linkRecordChecks, sizesRecordChecks, Reading}
 use Rattle.table.specs.declared.Record.{Record}
 use Rattle.table.specs.declared.Record.the-variants.{Counts, Link, Sizes, Refused}
 use Rattle.table.specs.declared.Reading.{Reading as ReadingRecord}
@@ -41,14 +41,14 @@ saidOr (suc n) next = record { refused = suc n; kind = 0; values = [] }
 
 unfoldable pub countsDue : List ℕ → Said
 countsDue rest =
-    saidOr (firstMet (headerChecks 1 6 rest ++ countChecks (numberAt 4 2 rest) (numberAt 6 2 rest))) (saying 1 (numberAt 4 2 rest ∷ numberAt 6 2 rest ∷ []))
+    saidOr (firstMet (countRecordChecks rest)) (saying 1 (numberAt 4 2 rest ∷ numberAt 6 2 rest ∷ []))
 
 unfoldable pub linkDue : ℕ → Option ℕ → List ℕ → Said
 linkDue lines previous rest =
-    saidOr (firstMet (headerChecks 2 16 rest ++ (check 4 (not (eqb (numberAt 9 1 rest) 0)) ∷ linkChecks lines previous (linkRead rest)))) (saying 2 (linkValues (linkRead rest)))
+    saidOr (firstMet (linkRecordChecks lines previous rest)) (saying 2 (linkValues (linkRead rest)))
 
 unfoldable pub sizesDue : List ℕ → Said
-sizesDue rest = saidOr (firstMet (headerChecks 3 34 rest ++ sizeChecks (sizesRead rest) ++ (check 7 (ltb 36 (length rest)) ∷ []))) (saying 3 (sizesRead rest))
+sizesDue rest = saidOr (firstMet (sizesRecordChecks rest)) (saying 3 (sizesRead rest))
 
 -- "Kind 1, .. first", "Kind 2, .. n of them", "Kind 3, .. last": what is due in the bytes not yet read, by the number of records read
 unfoldable pub dueAt : List ℕ → ℕ → ℕ → ℕ → ℕ → Said

@@ -52,12 +52,16 @@ pub(crate) fn number2(s: &[u8], at: usize) -> u16
     requires { ⌜ at + 2 ≤ length (now s) ⌝ }
     ensures { λ r. ⌜ r ≡ numberAt at 2 (now (s .entry)) ⌝ }
 {
-    wide16(s[at]) + 256 * wide16(s[at + 1])
+    let low = wide16(s[at]);
+    let high = wide16(s[at + 1]);
+    low + 256 * high
 }
 
 pub(crate) fn number4(s: &[u8], at: usize) -> u32
     requires { ⌜ at + 4 ≤ length (now s) ⌝ }
     ensures { λ r. ⌜ r ≡ numberAt at 4 (now (s .entry)) ⌝ }
 {
-    wide32(number2(s, at)) + 65536 * wide32(number2(s, at + 2))
+    let low = wide32(number2(s, at));
+    let high = wide32(number2(s, at + 2));
+    low + 65536 * high
 }

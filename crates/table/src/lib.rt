@@ -5,6 +5,7 @@ mod records;
 mod writer;
 
 ghost use mathlib.Core.Path.{_≡_};
+ghost use Rattle.model.specs.Link.{bagOf};
 ghost use Rattle.model.specs.Table.{blankTable, tableRefusal};
 ghost use Rattle.model.specs.TableFile.{readTable};
 ghost use Rattle.table.specs.View.{blankFields, viewOf, recordOf};
@@ -47,6 +48,22 @@ pub struct Reading {
 pub struct Writing {
     pub refused: u32,
     pub written: usize,
+}
+
+// The BAG of a code, in ticks; a code above 7 has the last.
+pub fn bag(code: u8) -> u64
+    ensures { λ r. ⌜ r ≡ bagOf code ⌝ }
+{
+    match code {
+        0 => 12500,
+        1 => 25000,
+        2 => 50000,
+        3 => 100000,
+        4 => 200000,
+        5 => 400000,
+        6 => 800000,
+        _ => 1600000,
+    }
 }
 
 // 0, or the number of the first check from 3 to 6 that the table meets.
@@ -109,8 +126,22 @@ pub fn read(file: &[u8]) -> Reading
     let mut previous: u16 = 0;
     let mut rest = &file[8..];
     let mut read: usize = 1;
-    while read <= bytes::wide_size(count) {
+    loop {
         let next = records::record_at(rest, read, count, lines, previous);
+        if bytes::wide_size(count) < read {
+            let Record::Sizes(a, b, c, d, e, f, g, h) = next else {
+                return refused(records::refusal_of(next));
+            };
+            let sizes = [a, b, c, d, e, f, g, h];
+            let table = Table {
+                lines,
+                count,
+                numbers,
+                links,
+                sizes,
+            };
+            return Reading { refused: 0, table };
+        }
         let Record::Link(number, link) = next else {
             return refused(records::refusal_of(next));
         };
@@ -119,21 +150,6 @@ pub fn read(file: &[u8]) -> Reading
         previous = number;
         rest = &rest[18..];
         read += 1;
-    }
-    let last = records::record_at(rest, read, count, lines, previous);
-    let Record::Sizes(a, b, c, d, e, f, g, h) = last else {
-        return refused(records::refusal_of(last));
-    };
-    let sizes = [a, b, c, d, e, f, g, h];
-    Reading {
-        refused: 0,
-        table: Table {
-            lines,
-            count,
-            numbers,
-            links,
-            sizes,
-        },
     }
 }
 

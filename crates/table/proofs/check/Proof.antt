@@ -4,33 +4,22 @@ use mathlib.Core.Path.{sym, _∙_}
 use Rattle.table.proofs.Links.{counts-refused, links-refused, sizes-decide}
 use Rattle.table.proofs.check.Statement.{statement}
 use Rattle.table.proofs.check.Tie as tie
-use Rattle.table.proofs.check.Reads as reads
-use Rattle.table.proofs.check.Lts as lts
-use Rattle.table.proofs.checks.counts_in_range.Reads as counts-in-range-reads
-use Rattle.table.proofs.checks.links_refusal.Reads as links-refusal-reads
-use Rattle.table.proofs.checks.sizes_refusal.Reads as sizes-refusal-reads
 
--- src/lib.rt:30:9
 counts-in-range-requires : tie.Need-counts-in-range-requires
 counts-in-range-requires c κs = search needs
 
--- src/lib.rt:31:9
 returns : tie.Need-returns
 returns c = counts-refused (c .before .before .args .t) (sym (c .before .counts-in-range .ensures) ∙ not-true (c .before .counts-in-range .result) (c .if1 .taken))
 
--- src/lib.rt:33:9
 links-refusal-requires : tie.Need-links-refusal-requires
 links-refusal-requires c κs = sym (c .before .counts-in-range .ensures) ∙ not-false (c .before .counts-in-range .result) (c .if1 .left)
 
--- src/lib.rt:35:9
 returns-2 : tie.Need-returns-2
 returns-2 c = links-refused (c .before .before .before .before .args .t) (sym (c .before .before .before .counts-in-range .ensures) ∙ not-false (c .before .before .before .counts-in-range .result) (c .before .before .if1 .left)) _ (c .before .links-refusal .ensures) (c .if2 .taken)
 
--- src/lib.rt:38:5
 sizes-refusal-requires : tie.Need-sizes-refusal-requires
 sizes-refusal-requires c κs = search needs
 
--- src/lib.rt:27:1
 returns-3 : tie.Need-returns-3
 returns-3 c = sizes-decide (c .before .before .before .before .before .before .args .t) (sym (c .before .before .before .before .before .counts-in-range .ensures) ∙ not-false (c .before .before .before .before .before .counts-in-range .result) (c .before .before .before .before .if1 .left)) _ (c .before .before .before .links-refusal .ensures) (c .before .before .if2 .left) _ (c .sizes-refusal .ensures)
 

@@ -4,43 +4,32 @@ use native.Mathlib.Omega.{arith}
 use Rattle.table.proofs.Numbers.{four-read}
 use Rattle.table.proofs.bytes.number4.Statement.{statement}
 use Rattle.table.proofs.bytes.number4.Tie as tie
-use Rattle.table.proofs.bytes.number4.Reads as reads
-use Rattle.table.proofs.bytes.number4.Lts as lts
-use Rattle.table.proofs.bytes.number2.Reads as number2-reads
-use Rattle.table.proofs.bytes.wide32.Reads as wide32-reads
 
--- src/bytes.rt:56:12
 number2-requires : tie.Need-number2-requires
 number2-requires c κs = search needs
 
--- src/bytes.rt:56:5
 wide32-requires : tie.Need-wide32-requires
 wide32-requires c κs = search needs
 
--- src/bytes.rt:56:56
 add-number2 : tie.Need-add-number2
 add-number2 c = search needs
 
--- src/bytes.rt:56:45
 number2-requires-2 : tie.Need-number2-requires-2
 number2-requires-2 c κs = search needs
 
--- src/bytes.rt:56:38
 wide32-requires-2 : tie.Need-wide32-requires-2
 wide32-requires-2 c κs = search needs
 
--- src/bytes.rt:56:30
 mul-result : tie.Need-mul-result
 mul-result c = search needs
 
--- src/bytes.rt:56:5
 add-result : tie.Need-add-result
 add-result c = search needs
 
--- src/bytes.rt:52:1
 returns : tie.Need-returns
 returns c =
-    four-read (c .before .before .before .before .before .args .at) (c .before .before .before .before .before .args .s .now) (c .before .before .wide32 .result) (c .wide322 .result) (omega arith)
+    let start = c .before .before .before .before .before in
+    four-read (start .args .at) (start .args .s .now) (c .before .before .wide32 .result) (c .wide322 .result) (omega arith)
     (c .before .before .wide32 .ensures .0 ∙ c .before .before .before .number2 .ensures) (c .wide322 .ensures .0 ∙ c .before .number22 .ensures)
 
 pub number4-spec : {M : Type 1} → statement M

@@ -3,18 +3,13 @@ use native.Mathlib.Omega.{arith}
 use Rattle.table.proofs.Numbers.{put-one}
 use Rattle.table.proofs.bytes.put1.Statement.{statement}
 use Rattle.table.proofs.bytes.put1.Tie as tie
-use Rattle.table.proofs.bytes.put1.Reads as reads
-use Rattle.table.proofs.bytes.put1.Lts as lts
 
--- src/bytes.rt:12:5
 slice-write-s : tie.Need-slice-write-s
 slice-write-s c = search needs
 
--- src/bytes.rt:8:1
 same-length : tie.Need-same-length
 same-length c = search needs
 
--- src/bytes.rt:8:1
 returns : tie.Need-returns
 returns c = put-one (c .args .s .now) (c .args .at) (c .args .x) (omega arith) (omega arith)
 

@@ -4,34 +4,25 @@ use lib.ListN.{length-set}
 use Rattle.table.proofs.Numbers.{put-two}
 use Rattle.table.proofs.bytes.put2.Statement.{statement}
 use Rattle.table.proofs.bytes.put2.Tie as tie
-use Rattle.table.proofs.bytes.put2.Reads as reads
-use Rattle.table.proofs.bytes.put2.Lts as lts
 
--- src/bytes.rt:19:13
 cast-s : tie.Need-cast-s
 cast-s c = search needs
 
--- src/bytes.rt:19:5
 slice-write-s : tie.Need-slice-write-s
 slice-write-s c = search needs
 
--- src/bytes.rt:20:17
 cast-s-2 : tie.Need-cast-s-2
 cast-s-2 c = search needs
 
--- src/bytes.rt:20:7
 add-s : tie.Need-add-s
 add-s c = search needs
 
--- src/bytes.rt:20:5
 slice-write-s-2 : tie.Need-slice-write-s-2
 slice-write-s-2 c = simp length-set (omega arith)
 
--- src/bytes.rt:15:1
 same-length : tie.Need-same-length
 same-length c = search needs
 
--- src/bytes.rt:15:1
 returns : tie.Need-returns
 returns c = put-two (c .args .s .now) (c .args .at) (c .args .x) (omega arith) (omega arith)
 

@@ -13,9 +13,6 @@ use Rattle.table.proofs.Refusals.{previous-none}
 use Rattle.table.proofs.Links.{links-stop, links-go-on, links-end}
 use Rattle.table.proofs.checks.links_refusal.Statement.{statement}
 use Rattle.table.proofs.checks.links_refusal.Tie as tie
-use Rattle.table.proofs.checks.links_refusal.Reads as reads
-use Rattle.table.proofs.checks.links_refusal.Lts as lts
-use Rattle.table.proofs.checks.link_refusal.Reads as link-refusal-reads
 
 abbrev Inv-loop : tie.InvT-loop
 Inv-loop t n previous₀ i₀ previous i = (i ≤ n) × (n ≡ t .count) × (firstMet (linksChecks (t .lines) none (linksOf t)) ≡ firstMet (linksChecks (t .lines) (previousOf i previous) (drop i (linksOf t))))
@@ -23,51 +20,51 @@ Inv-loop t n previous₀ i₀ previous i = (i ≤ n) × (n ≡ t .count) × (fir
 abbrev μ-loop : tie.MeasureT-loop
 μ-loop t n previous₀ i₀ previous i = n - i
 
--- src/checks.rt:80:13
 cast-n : tie.Need-cast-n Inv-loop μ-loop
 cast-n c = search needs
 
--- src/checks.rt:83:5
 loop-holds : tie.Need-loop-holds Inv-loop μ-loop
 loop-holds c = (omega arith, refl, rw (previous-none 0))
 
--- src/checks.rt:84:22
 mul-number : tie.Need-mul-number Inv-loop μ-loop
-mul-number c = let k = counts-fit (c .before .before .args .t1 .lines) (c .before .before .args .t1 .count) (c .before .before .pre) in omega arith
+mul-number c =
+    let start = c .before .before in
+    let k = counts-fit (start .args .t1 .lines) (start .args .t1 .count) (start .pre) in omega arith
 
--- src/checks.rt:84:22
 element-copy-out-number : tie.Need-element-copy-out-number Inv-loop μ-loop
-element-copy-out-number c = let k = counts-fit (c .before .before .args .t1 .lines) (c .before .before .args .t1 .count) (c .before .before .pre) in omega arith
+element-copy-out-number c =
+    let start = c .before .before in
+    let k = counts-fit (start .args .t1 .lines) (start .args .t1 .count) (start .pre) in omega arith
 
--- src/checks.rt:85:20
 mul-link : tie.Need-mul-link Inv-loop μ-loop
-mul-link c = let k = counts-fit (c .before .before .before .args .t1 .lines) (c .before .before .before .args .t1 .count) (c .before .before .before .pre) in omega arith
+mul-link c =
+    let start = c .before .before .before in
+    let k = counts-fit (start .args .t1 .lines) (start .args .t1 .count) (start .pre) in omega arith
 
--- src/checks.rt:85:20
 element-copy-out-link : tie.Need-element-copy-out-link Inv-loop μ-loop
-element-copy-out-link c = let k = counts-fit (c .before .before .before .args .t1 .lines) (c .before .before .before .args .t1 .count) (c .before .before .before .pre) in omega arith
+element-copy-out-link c =
+    let start = c .before .before .before in
+    let k = counts-fit (start .args .t1 .lines) (start .args .t1 .count) (start .pre) in omega arith
 
--- src/checks.rt:86:13
 link-refusal-requires : tie.Need-link-refusal-requires Inv-loop μ-loop
 link-refusal-requires c κs = tt
 
--- src/checks.rt:88:13
 returns : tie.Need-returns Inv-loop μ-loop
-returns c = links-stop (c .before .before .before .before .before .before .args .t1) _ (c .before .before .before .before .before .before .good .0) (c .before .before .before .before .before .before .pre) (c .before .before .before .before .before .loop .previous) (c .before .before .before .before .before .loop .i) (omega arith) (c .before .before .before .before .before .loop .inv .2) _ (c .before .link-refusal .ensures) (c .if1 .taken)
+returns c =
+    let start = c .before .before .before .before .before .before in
+    links-stop (start .args .t1) _ (start .good .0) (start .pre) (c .before .before .before .before .before .loop .previous) (c .before .before .before .before .before .loop .i) (omega arith) (c .before .before .before .before .before .loop .inv .2) _ (c .before .link-refusal .ensures) (c .if1 .taken)
 
--- src/checks.rt:91:9
 add-i : tie.Need-add-i Inv-loop μ-loop
 add-i c = omega arith
 
--- src/checks.rt:83:5
 loop-less : tie.Need-loop-less Inv-loop μ-loop
 loop-less c = omega arith
 
--- src/checks.rt:83:5
 loop-again : tie.Need-loop-again Inv-loop μ-loop
-loop-again c = (omega arith, refl, links-go-on (c .before .before .before .before .before .before .args .t1) _ (c .before .before .before .before .before .before .good .0) (c .before .before .before .before .before .before .pre) (c .before .before .before .before .before .loop .previous) (c .before .before .before .before .before .loop .i) (omega arith) (c .before .before .before .before .before .loop .inv .2) _ (c .before .link-refusal .ensures) (c .if1 .left))
+loop-again c =
+    let start = c .before .before .before .before .before .before in
+    (omega arith, refl, links-go-on (start .args .t1) _ (start .good .0) (start .pre) (c .before .before .before .before .before .loop .previous) (c .before .before .before .before .before .loop .i) (omega arith) (c .before .before .before .before .before .loop .inv .2) _ (c .before .link-refusal .ensures) (c .if1 .left))
 
--- src/checks.rt:76:1
 returns-2 : tie.Need-returns-2 Inv-loop μ-loop
 returns-2 c = links-end (c .before .before .args .t1) (c .before .loop .previous) (c .before .loop .i) (omega arith) (c .before .loop .inv .2)
 

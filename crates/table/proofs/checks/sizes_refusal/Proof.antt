@@ -7,8 +7,6 @@ use Rattle.model.specs.Table.{allAtMost}
 use Rattle.table.proofs.Ranges.{at-most-more, size-past, sizes-end}
 use Rattle.table.proofs.checks.sizes_refusal.Statement.{statement}
 use Rattle.table.proofs.checks.sizes_refusal.Tie as tie
-use Rattle.table.proofs.checks.sizes_refusal.Reads as reads
-use Rattle.table.proofs.checks.sizes_refusal.Lts as lts
 
 abbrev Inv-loop : tie.InvT-loop
 Inv-loop sizes i₀ i = (i ≤ 8) × (allAtMost 16384 (take i sizes) ≡ true)
@@ -16,40 +14,33 @@ Inv-loop sizes i₀ i = (i ≤ 8) × (allAtMost 16384 (take i sizes) ≡ true)
 abbrev μ-loop : tie.MeasureT-loop
 μ-loop sizes i₀ i = 8 - i
 
--- src/checks.rt:100:5
 loop-holds : tie.Need-loop-holds Inv-loop μ-loop
 unfolding allAtMost
 loop-holds c = (omega arith, refl)
 
--- src/checks.rt:101:20
 mul-if1 : tie.Need-mul-if1 Inv-loop μ-loop
 mul-if1 c = omega arith
 
--- src/checks.rt:101:20
 array-read-if1 : tie.Need-array-read-if1 Inv-loop μ-loop
 array-read-if1 c = omega arith
 
--- src/checks.rt:102:13
 returns : tie.Need-returns Inv-loop μ-loop
 returns c = size-past (c .before .before .before .args .t1) (c .before .before .loop .i) (omega arith)
 
--- src/checks.rt:104:9
 add-i : tie.Need-add-i Inv-loop μ-loop
 add-i c = omega arith
 
--- src/checks.rt:100:5
 loop-less : tie.Need-loop-less Inv-loop μ-loop
 loop-less c = omega arith
 
--- src/checks.rt:100:5
 loop-again : tie.Need-loop-again Inv-loop μ-loop
 loop-again c = (omega arith, at-most-more 16384 (c .before .before .before .args .t1) (c .before .before .loop .i) (c .before .before .loop .inv .1) (omega arith))
 
--- src/checks.rt:96:1
 returns-2 : tie.Need-returns-2 Inv-loop μ-loop
 returns-2 c =
-    let n : length (c .before .before .args .t1) ≡ 8 = c .before .before .good .0 .1 .0 .1 in
-    sizes-end (c .before .before .args .t1) (c .before .loop .i) n (omega arith) (c .before .loop .inv .1)
+    let start = c .before .before in
+    let n : length (start .args .t1) ≡ 8 = start .good .0 .1 .0 .1 in
+    sizes-end (start .args .t1) (c .before .loop .i) n (omega arith) (c .before .loop .inv .1)
 
 pub sizes-refusal-spec : {M : Type 1} → statement M
 sizes-refusal-spec =

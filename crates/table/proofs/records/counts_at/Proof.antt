@@ -5,39 +5,27 @@ use native.Mathlib.Omega.{arith}
 use Rattle.table.proofs.Due.{body-there, counts-header, counts-out, counts-in}
 use Rattle.table.proofs.records.counts_at.Statement.{statement}
 use Rattle.table.proofs.records.counts_at.Tie as tie
-use Rattle.table.proofs.records.counts_at.Reads as reads
-use Rattle.table.proofs.records.counts_at.Lts as lts
-use Rattle.table.proofs.bytes.number2.Reads as number2-reads
-use Rattle.table.proofs.checks.counts_in_range.Reads as counts-in-range-reads
-use Rattle.table.proofs.records.header_refusal.Reads as header-refusal-reads
 
--- src/records.rt:37:9
 header-refusal-requires : tie.Need-header-refusal-requires
 header-refusal-requires c κs = search needs
 
--- src/records.rt:39:9
 returns : tie.Need-returns
-returns c = counts-header (c .before .before .before .args .rest .now) (c .before .header-refusal .result) (c .before .header-refusal .ensures) (c .if1 .taken)
+returns c = counts-header (c .before .before .before .args .rest .now) _ (c .before .header-refusal .ensures) (c .if1 .taken)
 
--- src/records.rt:41:9
 number2-requires : tie.Need-number2-requires
-number2-requires c κs = let k = body-there 1 6 (c .before .before .before .args .rest .now) (c .before .header-refusal .result) (c .before .header-refusal .ensures) (c .if1 .left) in omega arith
+number2-requires c κs = let k = body-there 1 6 (c .before .before .before .args .rest .now) _ (c .before .header-refusal .ensures) (c .if1 .left) in omega arith
 
--- src/records.rt:42:9
 number2-requires-2 : tie.Need-number2-requires-2
-number2-requires-2 c κs = let k = body-there 1 6 (c .before .before .before .before .args .rest .now) (c .before .before .header-refusal .result) (c .before .before .header-refusal .ensures) (c .before .if1 .left) in omega arith
+number2-requires-2 c κs = let k = body-there 1 6 (c .before .before .before .before .args .rest .now) _ (c .before .before .header-refusal .ensures) (c .before .if1 .left) in omega arith
 
--- src/records.rt:43:9
 counts-in-range-requires : tie.Need-counts-in-range-requires
 counts-in-range-requires c κs = search needs
 
--- src/records.rt:44:9
 returns-2 : tie.Need-returns-2
-returns-2 c = counts-out (c .before .before .before .before .before .before .before .args .rest .now) (c .before .before .before .before .before .header-refusal .result) (c .before .before .before .before .before .header-refusal .ensures) (c .before .before .before .before .if1 .left) (c .before .before .before .number2 .result) (c .before .before .number22 .result) (c .before .before .before .number2 .ensures) (c .before .before .number22 .ensures) (sym (c .before .counts-in-range .ensures) ∙ not-true (c .before .counts-in-range .result) (c .if2 .taken))
+returns-2 c = counts-out (c .before .before .before .before .before .before .before .args .rest .now) _ (c .before .before .before .before .before .header-refusal .ensures) (c .before .before .before .before .if1 .left) (c .before .before .before .number2 .result) (c .before .before .number22 .result) (c .before .before .before .number2 .ensures) (c .before .before .number22 .ensures) (sym (c .before .counts-in-range .ensures) ∙ not-true (c .before .counts-in-range .result) (c .if2 .taken))
 
--- src/records.rt:34:1
 returns-3 : tie.Need-returns-3
-returns-3 c = counts-in (c .before .before .before .before .before .before .before .args .rest .now) (c .before .before .before .before .before .header-refusal .result) (c .before .before .before .before .before .header-refusal .ensures) (c .before .before .before .before .if1 .left) (c .before .before .before .number2 .result) (c .before .before .number22 .result) (c .before .before .before .number2 .ensures) (c .before .before .number22 .ensures) (sym (c .before .counts-in-range .ensures) ∙ not-false (c .before .counts-in-range .result) (c .if2 .left))
+returns-3 c = counts-in (c .before .before .before .before .before .before .before .args .rest .now) _ (c .before .before .before .before .before .header-refusal .ensures) (c .before .before .before .before .if1 .left) (c .before .before .before .number2 .result) (c .before .before .number22 .result) (c .before .before .before .number2 .ensures) (c .before .before .number22 .ensures) (sym (c .before .counts-in-range .ensures) ∙ not-false (c .before .counts-in-range .result) (c .if2 .left))
 
 pub counts-at-spec : {M : Type 1} → statement M
 counts-at-spec =

@@ -2,38 +2,29 @@ use borrow.Author.Needs.{needs}
 use Rattle.table.proofs.Due.{fields-read}
 use Rattle.table.proofs.records.link_fields.Statement.{statement}
 use Rattle.table.proofs.records.link_fields.Tie as tie
-use Rattle.table.proofs.records.link_fields.Reads as reads
-use Rattle.table.proofs.records.link_fields.Lts as lts
-use Rattle.table.proofs.bytes.number2.Reads as number2-reads
-use Rattle.table.proofs.bytes.number4.Reads as number4-reads
 
--- src/records.rt:54:15
 shared-slice-read-t3 : tie.Need-shared-slice-read-t3
 shared-slice-read-t3 c = search needs
 
--- src/records.rt:55:19
 shared-slice-read-t5 : tie.Need-shared-slice-read-t5
 shared-slice-read-t5 c = search needs
 
--- src/records.rt:56:15
 shared-slice-read-t7 : tie.Need-shared-slice-read-t7
 shared-slice-read-t7 c = search needs
 
--- src/records.rt:57:16
 number2-requires : tie.Need-number2-requires
 number2-requires c κs = search needs
 
--- src/records.rt:58:19
 number2-requires-2 : tie.Need-number2-requires-2
 number2-requires-2 c κs = search needs
 
--- src/records.rt:59:17
 number4-requires : tie.Need-number4-requires
 number4-requires c κs = search needs
 
--- src/records.rt:49:1
 returns : tie.Need-returns
-returns c = fields-read (c .before .before .before .before .before .before .before .args .rest .now) (c .before .before .number2 .result) (c .before .number22 .result) (c .number4 .result) (c .before .before .before .before .before .before .before .pre) (c .before .before .number2 .ensures) (c .before .number22 .ensures) (c .number4 .ensures)
+returns c =
+    let start = c .before .before .before .before .before .before .before in
+    fields-read (start .args .rest .now) (c .before .before .number2 .result) (c .before .number22 .result) (c .number4 .result) (start .pre) (c .before .before .number2 .ensures) (c .before .number22 .ensures) (c .number4 .ensures)
 
 pub link-fields-spec : {M : Type 1} → statement M
 link-fields-spec =

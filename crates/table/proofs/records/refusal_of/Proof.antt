@@ -2,18 +2,13 @@ use borrow.Author.Needs.{needs}
 use Rattle.table.proofs.Cases.{not-refused, refused-number}
 use Rattle.table.proofs.records.refusal_of.Statement.{statement}
 use Rattle.table.proofs.records.refusal_of.Tie as tie
-use Rattle.table.proofs.records.refusal_of.Reads as reads
-use Rattle.table.proofs.records.refusal_of.Lts as lts
 
--- src/records.rt:136:25
 enum-known-next : tie.Need-enum-known-next
 enum-known-next c = search needs
 
--- src/records.rt:137:9
 returns : tie.Need-returns
 returns c = not-refused (c .before .args .next) (c .match .keys2)
 
--- src/records.rt:133:1
 returns-2 : tie.Need-returns-2
 returns-2 c = refused-number (c .before .before .before .args .next) (c .before .next .given .0 .0) (c .before .next .given .1)
 

@@ -2,43 +2,31 @@ use borrow.Author.Needs.{needs}
 use Rattle.table.proofs.Due.{sizes-are}
 use Rattle.table.proofs.records.sizes_read.Statement.{statement}
 use Rattle.table.proofs.records.sizes_read.Tie as tie
-use Rattle.table.proofs.records.sizes_read.Reads as reads
-use Rattle.table.proofs.records.sizes_read.Lts as lts
-use Rattle.table.proofs.bytes.number4.Reads as number4-reads
 
--- src/records.rt:87:9
 number4-requires : tie.Need-number4-requires
 number4-requires c κs = search needs
 
--- src/records.rt:88:9
 number4-requires-2 : tie.Need-number4-requires-2
 number4-requires-2 c κs = search needs
 
--- src/records.rt:89:9
 number4-requires-3 : tie.Need-number4-requires-3
 number4-requires-3 c κs = search needs
 
--- src/records.rt:90:9
 number4-requires-4 : tie.Need-number4-requires-4
 number4-requires-4 c κs = search needs
 
--- src/records.rt:91:9
 number4-requires-5 : tie.Need-number4-requires-5
 number4-requires-5 c κs = search needs
 
--- src/records.rt:92:9
 number4-requires-6 : tie.Need-number4-requires-6
 number4-requires-6 c κs = search needs
 
--- src/records.rt:93:9
 number4-requires-7 : tie.Need-number4-requires-7
 number4-requires-7 c κs = search needs
 
--- src/records.rt:94:9
 number4-requires-8 : tie.Need-number4-requires-8
 number4-requires-8 c κs = search needs
 
--- src/records.rt:82:1
 returns : tie.Need-returns
 returns c = sizes-are (c .before .before .before .before .before .before .before .before .before .args .rest .now) (c .before .before .before .before .before .before .before .number4 .result) (c .before .before .before .before .before .before .number42 .result) (c .before .before .before .before .before .number43 .result) (c .before .before .before .before .number44 .result) (c .before .before .before .number45 .result) (c .before .before .number46 .result) (c .before .number47 .result) (c .number48 .result) (c .before .before .before .before .before .before .before .number4 .ensures) (c .before .before .before .before .before .before .number42 .ensures) (c .before .before .before .before .before .number43 .ensures) (c .before .before .before .before .number44 .ensures) (c .before .before .before .number45 .ensures) (c .before .before .number46 .ensures) (c .before .number47 .ensures) (c .number48 .ensures)
 

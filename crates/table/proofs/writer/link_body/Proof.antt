@@ -3,49 +3,34 @@ use Rattle.table.specs.View.{linkOf}
 use Rattle.table.proofs.Written.{link-laid}
 use Rattle.table.proofs.writer.link_body.Statement.{statement}
 use Rattle.table.proofs.writer.link_body.Tie as tie
-use Rattle.table.proofs.writer.link_body.Reads as reads
-use Rattle.table.proofs.writer.link_body.Lts as lts
-use Rattle.table.proofs.bytes.put1.Reads as put1-reads
-use Rattle.table.proofs.bytes.put2.Reads as put2-reads
-use Rattle.table.proofs.bytes.put4.Reads as put4-reads
 
--- src/writer.rt:33:5
 put2-requires : tie.Need-put2-requires
 put2-requires c κs = search needs
 
--- src/writer.rt:34:5
 put1-requires : tie.Need-put1-requires
 put1-requires c κs = search needs
 
--- src/writer.rt:35:5
 put1-requires-2 : tie.Need-put1-requires-2
 put1-requires-2 c κs = search needs
 
--- src/writer.rt:36:5
 put1-requires-3 : tie.Need-put1-requires-3
 put1-requires-3 c κs = search needs
 
--- src/writer.rt:37:5
 put1-requires-4 : tie.Need-put1-requires-4
 put1-requires-4 c κs = search needs
 
--- src/writer.rt:38:5
 put2-requires-2 : tie.Need-put2-requires-2
 put2-requires-2 c κs = search needs
 
--- src/writer.rt:39:5
 put2-requires-3 : tie.Need-put2-requires-3
 put2-requires-3 c κs = search needs
 
--- src/writer.rt:40:5
 put4-requires : tie.Need-put4-requires
 put4-requires c κs = search needs
 
--- src/writer.rt:29:1
 same-length : tie.Need-same-length
 same-length c = search needs
 
--- src/writer.rt:29:1
 returns : tie.Need-returns
 returns c =
     let start = c .before .before .before .before .before .before .before .before .before .before .before .before .before .before .before .before .before .before .before .before .before .before .before .before .before .before .before .before .before .before .before .before .before in

@@ -10,9 +10,6 @@ use Rattle.table.specs.Output.{laid}
 use Rattle.table.proofs.Written.{first-laid, more-laid, all-laid}
 use Rattle.table.proofs.writer.sizes_body.Statement.{statement}
 use Rattle.table.proofs.writer.sizes_body.Tie as tie
-use Rattle.table.proofs.writer.sizes_body.Reads as reads
-use Rattle.table.proofs.writer.sizes_body.Lts as lts
-use Rattle.table.proofs.bytes.put4.Reads as put4-reads
 
 abbrev Inv-loop : tie.InvT-loop
 Inv-loop out₀ sizes p₀ out p = (p ≤ 8) × (length out ≡ length out₀) × (out ≡ laid 0 (flatMap (toBytes 4) (take p sizes)) out₀)
@@ -20,50 +17,44 @@ Inv-loop out₀ sizes p₀ out p = (p ≤ 8) × (length out ≡ length out₀) �
 abbrev μ-loop : tie.MeasureT-loop
 μ-loop out₀ sizes p₀ out p = 8 - p
 
--- src/writer.rt:48:5
 loop-holds : tie.Need-loop-holds Inv-loop μ-loop
-loop-holds c = (omega arith, refl, first-laid (toBytes 4) 4 (length-toBytes 4) 0 (c .before .args .t2) (c .before .args .out .now))
+loop-holds c =
+    let start = c .before in
+    (omega arith, refl, first-laid (toBytes 4) 4 (length-toBytes 4) 0 (start .args .t2) (start .args .out .now))
 
--- src/writer.rt:49:26
 mul-put4 : tie.Need-mul-put4 Inv-loop μ-loop
 mul-put4 c = omega arith
 
--- src/writer.rt:49:33
 mul-put4-2 : tie.Need-mul-put4-2 Inv-loop μ-loop
 mul-put4-2 c = omega arith
 
--- src/writer.rt:49:33
 array-read-put4 : tie.Need-array-read-put4 Inv-loop μ-loop
 array-read-put4 c = omega arith
 
--- src/writer.rt:49:9
 put4-requires : tie.Need-put4-requires Inv-loop μ-loop
 put4-requires c κs = omega arith
 
--- src/writer.rt:50:9
 add-p : tie.Need-add-p Inv-loop μ-loop
 add-p c = omega arith
 
--- src/writer.rt:48:5
 loop-less : tie.Need-loop-less Inv-loop μ-loop
 loop-less c = omega arith
 
--- src/writer.rt:48:5
 loop-again : tie.Need-loop-again Inv-loop μ-loop
 loop-again c =
-    let n : length (c .before .before .before .before .before .before .before .args .t2) ≡ 8 = c .before .before .before .before .before .before .before .good .1 .0 .1 .0 .1 in
-    (omega arith, c .before .before .put4 .kept .0 ∙ c .before .before .before .before .before .loop .inv .1, more-laid (toBytes 4) 4 (length-toBytes 4) 0 (c .before .before .before .before .before .before .before .args .t2) (c .before .before .before .before .before .loop .p) (4 * c .before .before .before .before .before .loop .p) 0 (c .before .before .before .before .before .before .before .args .out .now) (c .before .before .before .before .before .loop .out) (c .before .before .put4 .last .0) (omega arith) (omega arith) (omega arith) (c .before .before .before .before .before .loop .inv .2) (c .before .before .put4 .ensures))
+    let start = c .before .before .before .before .before .before .before in
+    let n : length (start .args .t2) ≡ 8 = start .good .1 .0 .1 .0 .1 in
+    (omega arith, c .before .before .put4 .kept .0 ∙ c .before .before .before .before .before .loop .inv .1, more-laid (toBytes 4) 4 (length-toBytes 4) 0 (start .args .t2) (c .before .before .before .before .before .loop .p) (4 * c .before .before .before .before .before .loop .p) 0 (start .args .out .now) (c .before .before .before .before .before .loop .out) (c .before .before .put4 .last .0) (omega arith) (omega arith) (omega arith) (c .before .before .before .before .before .loop .inv .2) (c .before .before .put4 .ensures))
 
--- src/writer.rt:43:1
 same-length : tie.Need-same-length Inv-loop μ-loop
 same-length c = search needs
 
--- src/writer.rt:43:1
 returns : tie.Need-returns Inv-loop μ-loop
 unfolding sizesBody
 returns c =
-    let n : length (c .before .before .before .args .t2) ≡ 8 = c .before .before .before .good .1 .0 .1 .0 .1 in
-    all-laid (toBytes 4) 4 (length-toBytes 4) 0 (c .before .before .before .args .t2) (c .before .loop .p) (c .before .before .before .args .out .now) (c .before .loop .out) (omega arith) (c .before .loop .inv .2)
+    let start = c .before .before .before in
+    let n : length (start .args .t2) ≡ 8 = start .good .1 .0 .1 .0 .1 in
+    all-laid (toBytes 4) 4 (length-toBytes 4) 0 (start .args .t2) (c .before .loop .p) (start .args .out .now) (c .before .loop .out) (omega arith) (c .before .loop .inv .2)
 
 pub sizes-body-spec : {M : Type 1} → statement M
 sizes-body-spec =

@@ -1,0 +1,64 @@
+// Internal to the product: the account of a virtual link (a token bucket), and the police check.
+ghost use mathlib.Core.Path.{_≡_};
+ghost use Prim.Native.Nat.{_+_, _-_, min};
+ghost use Rattle.model.specs.Link.{VirtualLink, bag as bagOfLink};
+ghost use Rattle.policing.specs.Check.{checkOf};
+
+// Credit in ticks, and the tick of its last change.
+pub struct Account {
+    pub credit: u64,
+    pub tick: u64,
+}
+
+// Whether the frame passed, and the account after it.
+pub struct Checked {
+    pub passed: bool,
+    pub account: Account,
+}
+
+// x − y, or 0 if y is more.
+fn less(x: u64, y: u64) -> u64
+    ensures { λ r. ⌜ r ≡ x - y ⌝ }
+{
+    if x < y {
+        return 0;
+    }
+    x - y
+}
+
+// The smaller of top and x + y; no sum wraps.
+fn capped_sum(top: u64, x: u64, y: u64) -> u64
+    ensures { λ r. ⌜ r ≡ min top (x + y) ⌝ }
+{
+    if top <= x {
+        return top;
+    }
+    if top - x <= y {
+        return top;
+    }
+    x + y
+}
+
+// The police check of a frame at a tick. The sum B + J is not formed, so that none can wrap:
+// the smaller of B + J and c, less B, is the smaller of J and c − B.
+pub fn police(a: Account, bag: u64, jitter: u64, time: u64) -> Checked
+    ensures { λ r. ⌜ ((v : VirtualLink) → bagOfLink v ≡ bag → v .jitter ≡ jitter → r ≡ checkOf v a time) ⌝ }
+{
+    let gone = less(time, a.tick);
+    let short = less(bag, a.credit);
+    if gone < short {
+        let grown = a.credit + gone;
+        return Checked {
+            passed: false,
+            account: Account {
+                credit: grown,
+                tick: time,
+            },
+        };
+    }
+    let credit = capped_sum(jitter, less(a.credit, bag), gone - short);
+    Checked {
+        passed: true,
+        account: Account { credit, tick: time },
+    }
+}
