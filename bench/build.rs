@@ -1,0 +1,10 @@
+//! Links the product's libraries that bench/run has made.
+
+fn main() {
+    let folder = format!("{}/../target/staticlib", env!("CARGO_MANIFEST_DIR"));
+    println!("cargo:rustc-link-search=native={folder}");
+    for name in ["table_c"] {
+        println!("cargo:rustc-link-lib=static={name}");
+        println!("cargo:rerun-if-changed={folder}/lib{name}.a");
+    }
+}
