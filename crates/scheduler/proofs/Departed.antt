@@ -1,0 +1,37 @@
+-- The list and the bytes, one departure more.
+use mathlib.Core.Path.{_≡_, refl, sym, ap, _∙_}
+use mathlib.Core.List.{List, [], _∷_, _++_, append-assoc, flatMap}
+use Prim.Native.Nat.{ℕ, zero, suc, _+_, _*_, _≤_, _<_}
+use native.Mathlib.Omega.{arith}
+use lib.ListN.{length, take, drop}
+use lib.Seq.{take-at, drop-at, drop-drop}
+use Rattle.model.specs.Units.{occupied}
+use Rattle.model.specs.Machine.{Departure}
+use Rattle.model.specs.Report.{threeNumbers, bytesFreed}
+use Rattle.model.proofs.Lists.{length-flatMap}
+
+flat-more : (ds : List Departure) (d : Departure) → flatMap threeNumbers (ds ++ (d ∷ [])) ≡ flatMap threeNumbers ds ++ threeNumbers d
+unfolding flatMap
+flat-more [] d = refl
+flat-more (x ∷ ds) d = ap (λ (l : List ℕ). x .number ∷ x .length ∷ x .freed ∷ l) (flat-more ds d)
+
+pub freed-more : (ds : List Departure) (d : Departure) → bytesFreed (ds ++ (d ∷ [])) ≡ bytesFreed ds + occupied (d .length)
+unfolding bytesFreed
+freed-more [] d = omega arith
+freed-more (x ∷ ds) d = omega (arith, freed-more ds d)
+
+pub list-more : (ds : List Departure) (d : Departure) (k : ℕ) (list₀ list : List ℕ) → k ≡ length ds → list ≡ flatMap threeNumbers ds ++ drop (3 * k) list₀ →
+    take (3 * k) list ++ (d .number ∷ d .length ∷ d .freed ∷ drop (3 * k + 3) list) ≡ flatMap threeNumbers (ds ++ (d ∷ [])) ++ drop (3 * (k + 1)) list₀
+list-more ds d k list₀ list e q =
+    let n : length (flatMap threeNumbers ds) ≡ 3 * k = omega (arith, length-flatMap threeNumbers 3 (λ x. refl) ds) in
+    let u : 3 * (k + 1) ≡ 3 * k + 3 = omega arith in
+    rw (
+      flat-more ds d,
+      append-assoc,
+      u,
+      ← drop-drop 3 (3 * k) list,
+      ← drop-drop 3 (3 * k) list₀,
+      q,
+      take-at (flatMap threeNumbers ds) (drop (3 * k) list₀) (3 * k) n,
+      drop-at (flatMap threeNumbers ds) (drop (3 * k) list₀) (3 * k) n,
+    )

@@ -1,0 +1,90 @@
+-- The views: their lengths, their elements, one queue set.
+use mathlib.Core.Path.{_≡_, refl, sym, ap, _∙_}
+use mathlib.Core.List.{List, [], _∷_, _++_, map, map-append}
+use Prim.Native.Nat.{ℕ, zero, suc, _+_, _-_, _≤_, _<_}
+use native.Mathlib.Numerals.{add-one}
+use native.Mathlib.Omega.{arith}
+use lib.ListN.{length, getD, take, drop, set, length-set, length-map, List·getD-map}
+use lib.Seq.{take-suc-set, map-set-same}
+use Rattle.model.specs.Basics.{entries}
+use Rattle.model.specs.Machine.{Frame, blankFrame, queueOf, headOf, withoutHead}
+use Rattle.scheduler.specs.declared.Frame.{Frame as FrameRecord}
+use Rattle.scheduler.specs.declared.Queue.{Queue}
+use Rattle.scheduler.specs.View.{frameOf, blankEntry, blankQueue, framesOf, queuesOf, marksOf}
+use Rattle.scheduler.specs.Contracts.{Pushed}
+use Rattle.scheduler.specs.Sending.{HeadGone}
+
+-- ---- what stands before a count
+length-entries {ℓ} : {A : Type ℓ} (b : A) (n : ℕ) (l : List A) → length (entries b n l) ≡ n
+unfolding entries
+length-entries b zero l = refl
+length-entries b (suc n) [] = ap suc (length-entries b n [])
+length-entries b (suc n) (x ∷ l) = ap suc (length-entries b n l)
+
+pub entries-take {ℓ} : {A : Type ℓ} (b : A) (n : ℕ) (l : List A) → n ≤ length l → entries b n l ≡ take n l
+unfolding entries
+entries-take b zero l h = refl
+entries-take b (suc n) [] h = absurd (omega arith)
+entries-take {A = A} b (suc n) (x ∷ l) h = ap (λ (r : List A). x ∷ r) (entries-take b n l (omega arith))
+
+entries-head {ℓ} : {A : Type ℓ} (b : A) (n : ℕ) (l : List A) → 0 < n → getD (entries b n l) 0 b ≡ getD l 0 b
+unfolding entries
+entries-head b zero l h = absurd (omega arith)
+entries-head b (suc n) [] h = refl
+entries-head b (suc n) (x ∷ l) h = refl
+
+-- ---- a queue
+pub count-shown : (q : Queue) → length (framesOf q) ≡ q .count
+unfolding framesOf
+count-shown q = length-map (entries blankEntry (q .count) (q .frames)) frameOf ∙ length-entries blankEntry (q .count) (q .frames)
+
+pub oldest-shown : (q : Queue) → 0 < q .count → getD (framesOf q) 0 blankFrame ≡ frameOf (getD (q .frames) 0 blankEntry)
+unfolding framesOf
+oldest-shown q h =
+    List·getD-map frameOf (entries blankEntry (q .count) (q .frames)) 0 blankEntry
+    ∙ ap frameOf (entries-head blankEntry (q .count) (q .frames) h)
+
+pub pushed-shown : (q : Queue) (f : FrameRecord) → q .count < length (q .frames) →
+    Pushed q f (record { count = q .count + 1; mark = q .mark; frames = set (q .frames) (q .count) f })
+unfolding framesOf
+pushed-shown q f h =
+    record {
+      frames =
+          rw (
+            add-one,
+            entries-take blankEntry (suc (q .count)) (set (q .frames) (q .count) f) (rw length-set (omega arith)),
+            take-suc-set (q .frames) (q .count) f h,
+            entries-take blankEntry (q .count) (q .frames) (omega arith),
+          ) (map-append frameOf (take (q .count) (q .frames)) (f ∷ []));
+      mark = refl;
+    }
+
+-- ---- the eight
+pub length-shown : (qs : List Queue) → length (queuesOf qs) ≡ length qs
+unfolding queuesOf
+length-shown qs = length-map qs framesOf
+
+pub queue-shown : (qs : List Queue) (p : ℕ) → queueOf (queuesOf qs) p ≡ framesOf (getD qs p blankQueue)
+unfolding queuesOf framesOf entries
+queue-shown qs p = List·getD-map framesOf qs p blankQueue
+
+pub queue-count : (qs : List Queue) (p : ℕ) → length (queueOf (queuesOf qs) p) ≡ getD qs p blankQueue .count
+queue-count qs p = rw queue-shown (count-shown (getD qs p blankQueue))
+
+pub queues-set : (qs : List Queue) (p : ℕ) (r : Queue) → queuesOf (set qs p r) ≡ set (queuesOf qs) p (framesOf r)
+unfolding queuesOf
+queues-set [] p r = refl
+queues-set (q ∷ qs) zero r = refl
+queues-set (q ∷ qs) (suc p) r = ap (λ (l : List (List Frame)). framesOf q ∷ l) (queues-set qs p r)
+
+-- ---- the head of a queue, and the queues without it
+module _ (qs : List Queue) (p : ℕ) where
+  pub head-shown : 0 < length (queueOf (queuesOf qs) p) → headOf (queuesOf qs) p ≡ frameOf (getD (getD qs p blankQueue .frames) 0 blankEntry)
+  head-shown h = let n = queue-count qs p in rw queue-shown (oldest-shown (getD qs p blankQueue) (omega arith))
+
+  module _ {r : Queue} (gone : HeadGone (getD qs p blankQueue) r) where
+    pub gone-shown : queuesOf (set qs p r) ≡ withoutHead (queuesOf qs) p
+    gone-shown = rw (queues-set, gone .frames, queue-shown)
+
+    pub marks-stay : marksOf (set qs p r) ≡ marksOf qs
+    marks-stay = map-set-same (λ (q : Queue). q .mark) qs p r blankQueue (gone .mark)
