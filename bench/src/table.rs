@@ -17,21 +17,21 @@ fn product_copy(file: &[u8], out: &mut [u8]) -> usize {
 }
 
 #[derive(Clone, Copy, Default)]
-struct Link {
-    number: u16,
-    line: u8,
-    priority: u8,
-    code: u8,
-    least: u16,
-    greatest: u16,
-    jitter: u32,
+pub struct Link {
+    pub number: u16,
+    pub line: u8,
+    pub priority: u8,
+    pub code: u8,
+    pub least: u16,
+    pub greatest: u16,
+    pub jitter: u32,
 }
 
-struct Table {
-    lines: u16,
-    count: u16,
-    links: [Link; 256],
-    sizes: [u32; 8],
+pub struct Table {
+    pub lines: u16,
+    pub count: u16,
+    pub links: [Link; 256],
+    pub sizes: [u32; 8],
 }
 
 fn two(b: &[u8], at: usize) -> u16 {
@@ -74,7 +74,7 @@ fn sizes_check(sizes: &[u32; 8]) -> Result<(), u32> {
     if sizes.iter().all(|&s| s <= 16_384) { Ok(()) } else { Err(6) }
 }
 
-fn read(file: &[u8]) -> Result<Table, u32> {
+pub fn read(file: &[u8]) -> Result<Table, u32> {
     header(file, 1, 6)?;
     let (lines, count) = (two(file, 4), two(file, 6));
     counts_check(lines, count)?;
@@ -168,8 +168,15 @@ fn peer_copy(file: &[u8], out: &mut [u8]) -> usize {
     read(file).and_then(|t| write(&t, out)).unwrap_or(0)
 }
 
+/// The file of a table that passes.
+pub fn file_of(t: &Table) -> Vec<u8> {
+    let mut out = vec![0; 44 + 18 * usize::from(t.count)];
+    write(t, &mut out).expect("it passes");
+    out
+}
+
 /// A table of 256 links on 24 lines.
-pub fn file_of_256() -> Vec<u8> {
+fn file_of_256() -> Vec<u8> {
     let mut links = [Link::default(); 256];
     for (i, v) in links.iter_mut().enumerate() {
         *v = Link {
@@ -182,9 +189,7 @@ pub fn file_of_256() -> Vec<u8> {
             jitter: 400 * i as u32,
         };
     }
-    let mut out = vec![0; 44 + 18 * 256];
-    write(&Table { lines: 24, count: 256, links, sizes: [16_384; 8] }, &mut out).expect("it passes");
-    out
+    file_of(&Table { lines: 24, count: 256, links, sizes: [16_384; 8] })
 }
 
 pub fn run() {

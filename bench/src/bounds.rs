@@ -1,0 +1,194 @@
+//! Bounds and holds: the product beside the literal formulas and beside the same method in plain Rust.
+
+use crate::measure::{compare, once};
+use crate::table::{file_of, read, Link, Table};
+use std::hint::black_box;
+
+extern "C" {
+    fn bench_sizing(file: *const u8, length: usize) -> u64;
+}
+
+fn product(file: &[u8]) -> u64 {
+    unsafe { bench_sizing(file.as_ptr(), file.len()) }
+}
+
+const BAGS: [u64; 8] = [12_500, 25_000, 50_000, 100_000, 200_000, 400_000, 800_000, 1_600_000];
+
+fn frames(v: &Link, w: u64) -> u64 {
+    1 + (w + u64::from(v.jitter)) / BAGS[usize::from(v.code)]
+}
+
+fn links(t: &Table) -> &[Link] {
+    &t.links[..usize::from(t.count)]
+}
+
+fn longest(t: &Table, low: u8, high: u8) -> u64 {
+    links(t).iter().filter(|v| low <= v.priority && v.priority <= high).map(|v| u64::from(v.greatest)).max().unwrap_or(0)
+}
+
+/// The sum of bytes of the members of each line, and their greatest length.
+#[derive(Clone, Copy)]
+struct Loads {
+    sums: [u64; 24],
+    tops: [u64; 24],
+}
+
+fn loads(t: &Table, low: u8, high: u8, w: u64) -> Loads {
+    let mut l = Loads { sums: [0; 24], tops: [0; 24] };
+    for v in links(t).iter().filter(|v| low <= v.priority && v.priority <= high) {
+        let (k, x) = (usize::from(v.line), u64::from(v.greatest));
+        l.sums[k] += x * frames(v, w);
+        l.tops[k] = l.tops[k].max(x);
+    }
+    l
+}
+
+fn total(l: &Loads, lines: u16, w: u64) -> u64 {
+    (0..usize::from(lines)).map(|k| l.sums[k].min(w + l.tops[k])).sum()
+}
+
+fn arrivals(t: &Table, low: u8, high: u8, w: u64) -> u64 {
+    total(&loads(t, low, high, w), t.lines, w)
+}
+
+/// The literal formulas: for each priority, for each w in turn, A anew by one pass over all links and one over all lines.
+fn literal(t: &Table) -> Option<u64> {
+    let mut sum = 0;
+    for p in 0..8 {
+        let b = longest(t, p + 1, 7).saturating_sub(1);
+        let hold = (1..=65_536).find(|w| b + arrivals(t, 0, p, w - 1) <= *w)?;
+        let m = longest(t, p, p);
+        let bound = |w: u64| arrivals(t, p, p, w).min(arrivals(t, 0, p, w) - w.saturating_sub(b) + m - 1);
+        sum += hold + if m == 0 { 0 } else { (0..hold).map(bound).max()? };
+    }
+    Some(sum)
+}
+
+/// The same method: climb to the hold; stretches in which no N changes; a cap; bisection on the slope.
+fn fast(t: &Table) -> Option<u64> {
+    let mut sum = 0;
+    for p in 0..8 {
+        let b = longest(t, p + 1, 7).saturating_sub(1);
+        let hold = climb(t, p, b)?;
+        let m = longest(t, p, p);
+        sum += hold + if m == 0 { 0 } else { peak(t, p, b, m, hold - 1) };
+    }
+    Some(sum)
+}
+
+fn climb(t: &Table, p: u8, b: u64) -> Option<u64> {
+    let mut last = 0;
+    while last < 65_536 {
+        let n = b + arrivals(t, 0, p, last);
+        if n <= last + 1 {
+            return Some(last + 1);
+        }
+        last = n - 1;
+    }
+    None
+}
+
+fn peak(t: &Table, p: u8, b: u64, m: u64, last: u64) -> u64 {
+    let (mut best, mut w) = (0, 0);
+    while w <= last {
+        let (own, up) = (loads(t, p, p, w), loads(t, 0, p, w));
+        let until = steady(t, p, w).min(last);
+        let by = |w: u64, sent: u64| {
+            total(&own, t.lines, w).min(total(&up, t.lines, w).saturating_sub(sent.saturating_sub(b)) + m - 1)
+        };
+        if by(until, w) > best {
+            let (mut low, mut high) = (w, until);
+            while low < high {
+                let mid = (low + high) / 2;
+                if by(mid, mid) < by(mid + 1, mid + 1) {
+                    low = mid + 1;
+                } else {
+                    high = mid;
+                }
+            }
+            best = best.max(by(low, low));
+        }
+        w = until + 1;
+    }
+    best
+}
+
+fn steady(t: &Table, high: u8, w: u64) -> u64 {
+    let until = |v: &Link| frames(v, w) * BAGS[usize::from(v.code)] - u64::from(v.jitter) - 1;
+    links(t).iter().filter(|v| v.priority <= high).map(until).min().unwrap_or(65_535).min(65_535)
+}
+
+/// A table of n links: number i has the line, priority, code, greatest length and jitter that `of` gives.
+fn table(lines: u16, n: usize, of: impl Fn(usize) -> (usize, usize, usize, usize, usize)) -> Table {
+    let mut links = [Link::default(); 256];
+    for (i, v) in links.iter_mut().enumerate().take(n) {
+        let (line, priority, code, greatest, jitter) = of(i);
+        *v = Link {
+            number: i as u16,
+            line: line as u8,
+            priority: priority as u8,
+            code: code as u8,
+            least: 84,
+            greatest: greatest as u16,
+            jitter: jitter as u32,
+        };
+    }
+    Table { lines, count: n as u16, links, sizes: [16_384; 8] }
+}
+
+fn holds(t: &Table) -> Vec<u64> {
+    (0..8).filter_map(|p| climb(t, p, longest(t, p + 1, 7).saturating_sub(1))).collect()
+}
+
+fn case(what: &str, t: &Table, calls: usize, with_literal: bool) {
+    let file = file_of(t);
+    let same = read(&file).ok().and_then(|t| fast(&t));
+    assert_eq!(Some(product(&file)), same);
+    let h = holds(t);
+    println!("{what}: holds {} to {}", h.iter().min().unwrap(), h.iter().max().unwrap());
+    if with_literal {
+        let (slow, sum) = once(|| literal(t));
+        assert_eq!(sum, same);
+        let (quick, _) = once(|| product(&file));
+        println!("{:<44} {:>9.2} ms {:>9.2} ms {:>7.4}", "  beside the literal formulas", quick * 1e3, slow * 1e3, quick / slow);
+    }
+    compare(
+        "  beside the same method",
+        calls,
+        || {
+            black_box(product(black_box(&file)));
+        },
+        || {
+            black_box(read(black_box(&file)).ok().and_then(|t| fast(&t)));
+        },
+    );
+}
+
+/// A large table whose eight holds all lie above 50,000: 147 links of priority 0, the others small, codes and jitters mixed.
+fn large() -> Table {
+    let mut x = 164u64.wrapping_mul(0x9E37_79B9_7F4A_7C15) | 1;
+    let mut next = |n: usize| {
+        x ^= x << 13;
+        x ^= x >> 7;
+        x ^= x << 17;
+        (x % n as u64) as usize
+    };
+    let (first, length, small, slow) = (100 + next(80), 150 + next(300), 84 + next(3), next(4));
+    let row = |i: usize| {
+        let urgent = i < first;
+        let priority = if urgent { 0 } else { 1 + (i - first) % 7 };
+        let code = if urgent { 2 + next(3) } else { 3 + slow + next(4).min(4 - slow) };
+        let greatest = if urgent { length + next(100) } else { small };
+        (i % 24, priority, code.min(7), greatest, next(if urgent { 60_000 } else { 125_000 }))
+    };
+    let rows: Vec<_> = (0..256).map(row).collect();
+    table(24, 256, |i| rows[i])
+}
+
+pub fn run() {
+    case("256 links on 24 lines", &large(), 1, true);
+    let usual = table(12, 100, |i| (i % 12, i % 8, i % 8, 84 + 3 * (i % 40), 500 * (i % 9)));
+    case("100 links on 12 lines", &usual, 10, true);
+    let busy = table(1, 256, |i| (0, i % 8, 3 + i % 5, 90 + i % 120, 400 * i));
+    case("256 links on one line", &busy, 1, true);
+}

@@ -1,0 +1,38 @@
+-- Sums of a list, one element more at a time; and what a bench's call gives.
+use mathlib.Core.Path.{_≡_, refl, ap, _∙_}
+use mathlib.Core.List.{List, [], _∷_}
+use Prim.Native.Nat.{ℕ, zero, suc, _+_, _<_, _≤_}
+use native.Mathlib.Omega.{arith}
+use native.Mathlib.Numerals.{add-one}
+use lib.ListN.{length, getD, take}
+use lib.Seq.{take-all}
+use Rattle.model.specs.Bounds.{sizing}
+use Rattle.model.specs.TableFile.{Reading, readTable}
+use Rattle.table.specs.declared.Reading.{Reading as ReadingRecord}
+use Rattle.table.specs.View.{viewOf}
+use Rattle.table.specs.Records.{readingOf}
+use Rattle.table.proofs.Shown.{read-shown}
+use Rattle.bounds.specs.declared.Bounds.{Bounds as BoundsRecord}
+use Rattle.bounds.specs.Answer.{boundsRecord}
+use Rattle.bench_calls.specs.Sums.{sum, sizingSum}
+
+pub sum-none : (l : List ℕ) → 0 ≡ sum (take 0 l)
+unfolding sum
+sum-none l = refl
+
+pub sum-more : (l : List ℕ) (i : ℕ) → i < length l → sum (take (i + 1) l) ≡ sum (take i l) + getD l i 0
+unfolding sum
+sum-more [] i h = absurd (omega arith)
+sum-more (n ∷ l) zero h = omega arith
+sum-more (n ∷ l) (suc i) h = let e : suc i + 1 ≡ suc (i + 1) = omega arith in rw e (omega (arith, sum-more l i (omega arith)))
+
+pub sum-all : (l : List ℕ) (i : ℕ) → length l ≤ i → sum (take i l) ≡ sum l
+sum-all l i h = ap sum (take-all i l h)
+
+-- ---- the bounds and holds of a file
+pub sizing-is : (file : List ℕ) (r : ReadingRecord) (s : BoundsRecord) (b h : ℕ) → r ≡ readingOf (readTable file) → s ≡ boundsRecord (sizing (viewOf (r .table)))
+    → b ≡ sum (s .bounds) → h ≡ sum (s .holds) → b + h ≡ sizingSum (readTable file .table)
+unfolding sizingSum
+sizing-is file r s b h e f p q =
+    let same : viewOf (r .table) ≡ readTable file .table = ap (λ (x : ReadingRecord). viewOf (x .table)) e ∙ read-shown file in
+    rw (p, q, f, same)

@@ -1,0 +1,65 @@
+use mathlib.Core.Path.{_≡_, refl, _∙_}
+use Prim.Native.Nat.{_+_, _-_, _*_, _≤_}
+use native.Mathlib.Omega.{arith}
+use borrow.Author.Needs.{needs}
+use lib.ListN.{length, take}
+use Rattle.bench_calls.specs.Sums.{sum}
+use Rattle.bench_calls.proofs.Adding.{sum-none, sum-more, sum-all}
+use Rattle.bench_calls.proofs.sum_of.Statement.{statement}
+use Rattle.bench_calls.proofs.sum_of.Tie as tie
+
+abbrev Inv-loop : tie.InvT-loop
+Inv-loop a total₀ i₀ total i = (i ≤ 8) × (total ≤ 4294967295 * i) × (total ≡ sum (take i a))
+
+abbrev μ-loop : tie.MeasureT-loop
+μ-loop a total₀ i₀ total i = 8 - i
+
+loop-holds : tie.Need-loop-holds Inv-loop μ-loop
+loop-holds c = (omega arith, omega arith, sum-none (c .args .t1))
+
+mul-wide : tie.Need-mul-wide Inv-loop μ-loop
+mul-wide c = omega arith
+
+array-read-wide : tie.Need-array-read-wide Inv-loop μ-loop
+array-read-wide c = omega arith
+
+wide-requires : tie.Need-wide-requires Inv-loop μ-loop
+wide-requires c κs = search needs
+
+add-total : tie.Need-add-total Inv-loop μ-loop
+add-total c = omega arith
+
+add-i : tie.Need-add-i Inv-loop μ-loop
+add-i c = omega arith
+
+loop-less : tie.Need-loop-less Inv-loop μ-loop
+loop-less c = omega arith
+
+loop-again : tie.Need-loop-again Inv-loop μ-loop
+loop-again c =
+    let start = c .before .before .before in
+    let l : length (start .args .t1) ≡ 8 = start .good .0 .1 .0 .1 in
+    let more = sum-more (start .args .t1) (c .before .before .loop .i) (omega arith) in
+    (omega arith, omega arith, omega arith)
+
+returns : tie.Need-returns Inv-loop μ-loop
+returns c =
+    let start = c .before .before in
+    let l : length (start .args .t1) ≡ 8 = start .good .0 .1 .0 .1 in
+    (c .before .loop .inv .2 ∙ sum-all (start .args .t1) (c .before .loop .i) (omega arith), omega arith)
+
+pub sum-of-spec : {M : Type 1} → statement M
+sum-of-spec =
+    tie.close
+    (tie.spec
+    Inv-loop
+    μ-loop
+    loop-holds
+    mul-wide
+    array-read-wide
+    wide-requires
+    add-total
+    add-i
+    loop-less
+    loop-again
+    returns)

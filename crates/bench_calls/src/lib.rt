@@ -1,0 +1,37 @@
+// Calls that bench/ times: on byte slices and numbers.
+ghost use mathlib.Core.Path.{_≡_};
+ghost use Prim.Native.Nat.{_≤_, _*_};
+ghost use lib.ListN.{length, take};
+ghost use Rattle.model.specs.TableFile.{readTable};
+ghost use Rattle.bench_calls.specs.Sums.{sum, sizingSum};
+
+fn wide(x: u32) -> u64
+    ensures { λ r. ⌜ (r ≡ x) × (r ≤ 4294967295) ⌝ }
+{
+    x as u64
+}
+
+fn sum_of(a: [u32; 8]) -> u64
+    ensures { λ r. ⌜ (r ≡ sum a) × (r ≤ 4294967295 * 8) ⌝ }
+{
+    let mut total: u64 = 0;
+    let mut i: usize = 0;
+    while i < 8 {
+        total += wide(a[i]);
+        i += 1;
+    }
+    total
+}
+
+// The sum of the bounds and holds of the table of a file; 0 with a refusal.
+#[no_mangle]
+pub extern "C" fn bench_sizing(file: &[u8]) -> u64
+    ensures { λ r. ⌜ r ≡ sizingSum (readTable (now (file .entry)) .table) ⌝ }
+{
+    let reading = table::read(file);
+    let t = reading.table;
+    let s = bounds::bounds_of(t);
+    let b = s.bounds;
+    let h = s.holds;
+    sum_of(b) + sum_of(h)
+}

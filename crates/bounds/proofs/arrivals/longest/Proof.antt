@@ -1,0 +1,88 @@
+use mathlib.Core.Path.{_≡_}
+use Prim.Native.Nat.{_-_, _≤_}
+use borrow.Author.Needs.{needs}
+use native.Mathlib.Omega.{arith}
+use lib.ListN.{take}
+use Rattle.model.specs.Link.{greatestOver}
+use Rattle.table.specs.View.{linksOf}
+use Rattle.bounds.specs.Loads.{between}
+use Rattle.bounds.proofs.Loading.{longest-none, longest-step, longest-all}
+use Rattle.bounds.proofs.arrivals.longest.Statement.{statement}
+use Rattle.bounds.proofs.arrivals.longest.Tie as tie
+use Rattle.bounds.proofs.arrivals.longest.Reads as reads
+use Rattle.bounds.proofs.arrivals.longest.Lts as lts
+use Rattle.bounds.proofs.arrivals.weight.Reads as weight-reads
+use Rattle.bounds.proofs.numbers.index.Reads as index-reads
+use Rattle.bounds.proofs.numbers.larger.Reads as larger-reads
+
+abbrev Inv-loop : tie.InvT-loop
+Inv-loop low high t count top₀ i₀ top i = (i ≤ t .count) × (count ≡ t .count) × (top ≡ greatestOver (between low high) (λ v. v .greatest) (take i (linksOf t))) × (top ≤ 1_538)
+
+abbrev μ-loop : tie.MeasureT-loop
+μ-loop low high t count top₀ i₀ top i = t .count - i
+
+-- src/arrivals.rt:48:9
+index-requires : tie.Need-index-requires Inv-loop μ-loop
+index-requires c κs = search needs
+
+-- src/arrivals.rt:51:5
+loop-holds : tie.Need-loop-holds Inv-loop μ-loop
+loop-holds c = (omega arith, c .index .ensures, longest-none (between (c .before .args .low) (c .before .args .high)) (linksOf (c .before .args .t1)), omega arith)
+
+-- src/arrivals.rt:52:17
+mul-l : tie.Need-mul-l Inv-loop μ-loop
+mul-l c = omega arith
+
+-- src/arrivals.rt:52:17
+element-copy-out-l : tie.Need-element-copy-out-l Inv-loop μ-loop
+element-copy-out-l c = omega arith
+
+-- src/arrivals.rt:53:36
+weight-requires : tie.Need-weight-requires Inv-loop μ-loop
+weight-requires c κs = c .before .before .before .before .pre .each (c .before .before .loop .i) (omega arith)
+
+-- src/arrivals.rt:53:9
+larger-requires : tie.Need-larger-requires Inv-loop μ-loop
+larger-requires c κs = search needs
+
+-- src/arrivals.rt:54:9
+add-i : tie.Need-add-i Inv-loop μ-loop
+add-i c = omega arith
+
+-- src/arrivals.rt:51:5
+loop-less : tie.Need-loop-less Inv-loop μ-loop
+loop-less c = omega arith
+
+-- src/arrivals.rt:51:5
+loop-again : tie.Need-loop-again Inv-loop μ-loop
+loop-again c =
+    let s = c .before .before .before .before .before .before in
+    let o = c .before .before .before .before .loop in (
+      omega arith,
+      o .inv .1,
+      longest-step (s .args .t1) (s .pre) (s .args .low) (s .args .high) (o .i) (omega arith) (o .top) (c .before .weight .result) (c .larger .result) (o .inv .2) (c .before .weight .ensures .0) (c .larger .ensures),
+      omega arith,
+    )
+
+-- src/arrivals.rt:44:1
+returns : tie.Need-returns Inv-loop μ-loop
+returns c =
+    let s = c .before .before .before in
+    (longest-all (s .args .t1) (between (s .args .low) (s .args .high)) (c .before .loop .i) (c .before .loop .top) (omega arith) (c .before .loop .inv .2), omega arith)
+
+pub longest-spec : {M : Type 1} → statement M
+longest-spec =
+    tie.close
+    (tie.spec
+    Inv-loop
+    μ-loop
+    index-requires
+    loop-holds
+    mul-l
+    element-copy-out-l
+    weight-requires
+    larger-requires
+    add-i
+    loop-less
+    loop-again
+    returns)

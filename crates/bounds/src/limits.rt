@@ -1,0 +1,45 @@
+// Hold and bound of one priority, with the first window at which the bound occurs.
+use crate::arrivals;
+use crate::busy;
+use crate::stretch;
+use table::Table;
+ghost use Prim.Native.Nat.{_≤_};
+ghost use Rattle.table.specs.View.{viewOf};
+ghost use Rattle.bounds.specs.Fit.{Fit};
+ghost use Rattle.bounds.specs.Limits.{Limited};
+
+// A hold of 0 is none.
+pub struct Limits {
+    pub hold: u32,
+    pub bound: u32,
+    pub window: u32,
+}
+
+pub(crate) fn limits_of(t: Table, p: u8) -> Limits
+    requires { ⌜ Fit t × (p ≤ 7) ⌝ }
+    ensures { λ r. ⌜ Limited (viewOf t) p r ⌝ }
+{
+    let b = busy::blocking_of(t, p);
+    let hold = busy::hold_of(t, p, b);
+    if hold == 0 {
+        return Limits {
+            hold: 0,
+            bound: 0,
+            window: 0,
+        };
+    }
+    let m = arrivals::longest(t, p, p);
+    if m == 0 {
+        return Limits {
+            hold: hold as u32,
+            bound: 0,
+            window: 0,
+        };
+    }
+    let peak = stretch::peak_of(t, p, b, m, hold - 1);
+    Limits {
+        hold: hold as u32,
+        bound: peak.backlog as u32,
+        window: peak.window as u32,
+    }
+}
