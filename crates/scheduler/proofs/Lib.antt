@@ -5,3 +5,4 @@ pub mod Sums
 pub mod Starts
 pub mod Departed
 pub mod Progress
+pub mod Callers

@@ -1,23 +1,22 @@
 -- How far the loop of the advance is: the tick machine's advance from the start is what has left so far, and the advance from here.
-use mathlib.Core.Path.{_≡_, refl, sym, ap, _∙_}
+use mathlib.Core.Path.{_≡_, refl, ap, _∙_}
 use mathlib.Core.Bool.{true}
 use mathlib.Core.List.{List, [], _∷_, _++_, append-nil, flatMap}
-use Prim.Native.Nat.{ℕ, zero, suc, _+_, _*_, _≤_, _<_}
+use Prim.Native.Nat.{ℕ, _+_, _*_, _≤_, _<_}
 use native.Mathlib.Decide.{decLe}
 use native.Mathlib.Omega.{arith}
 use borrow.Author.Tests.{ltb-true}
 use lib.ListN.{length, getD, take, drop, set, length-set, length-append, length-drop, List·getD-eq-default}
 use Rattle.model.specs.Basics.{Each, done}
-use Rattle.model.specs.Units.{lastTick, occupied, mostFrames}
+use Rattle.model.specs.Units.{occupied, mostFrames}
 use Rattle.model.specs.Machine.{Frame, Sender, idle, sending, Departure, Advance, at, advanced, advance, joined, departure, queueOf, headOf, withoutHead, framesHeld}
-use Rattle.model.specs.Report.{senderFit, threeNumbers, listed, bytesFreed}
+use Rattle.model.specs.Report.{senderFit, threeNumbers, bytesFreed}
 use Rattle.model.proofs.Checks.{all-true}
 use Rattle.model.proofs.BusyPeriod.{set-keeps, pop-each}
 use Rattle.model.proofs.FrameByFrame.{under-way, sent, joined-joined}
 use Rattle.scheduler.specs.declared.Queue.{Queue}
 use Rattle.scheduler.specs.declared.Sender.{Sender as SenderRecord}
 use Rattle.scheduler.specs.declared.Sender.the-variants.{Idle, Sending}
-use Rattle.scheduler.specs.declared.Moved.{Moved}
 use Rattle.scheduler.specs.View.{blankQueue, queuesOf, marksOf, senderOf}
 use Rattle.scheduler.specs.Contracts.{Ready, advanceOf, Advanced}
 use Rattle.scheduler.specs.Sending.{UnderWay, Sends, Positive, GoesOn, HeadGone}

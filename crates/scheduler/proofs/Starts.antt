@@ -1,5 +1,5 @@
 -- Who sends from a tick on, case by case.
-use mathlib.Core.Path.{_≡_, refl, sym, ap, _∙_}
+use mathlib.Core.Path.{_≡_, refl, _∙_}
 use mathlib.Core.Option.{Option, none, some}
 use mathlib.Core.List.{List, [], _∷_}
 use Prim.Native.Nat.{ℕ, zero, suc, _+_, _≤_, _<_}
@@ -8,12 +8,12 @@ use native.Mathlib.Decide.{ℕ-discrete}
 use native.Mathlib.Omega.{arith}
 use lib.ListN.{length, getD}
 use Rattle.model.specs.Basics.{further}
-use Rattle.model.specs.Machine.{Frame, Sender, idle, sending, at, advanced, advance, queueOf, headOf, highestWaiting, startIfAny}
+use Rattle.model.specs.Machine.{Frame, Sender, idle, sending, queueOf, highestWaiting, startIfAny}
 use Rattle.model.proofs.Queues.{waiting-some, each-head}
 use Rattle.model.proofs.FrameByFrame.{nothing-waits, time-up, starting}
 use Rattle.scheduler.specs.declared.Queue.{Queue}
 use Rattle.scheduler.specs.View.{blankQueue, queuesOf}
-use Rattle.scheduler.specs.Sending.{UnderWay, Sends, Positive, GoesOn}
+use Rattle.scheduler.specs.Sending.{Sends, Positive, GoesOn}
 use Rattle.scheduler.proofs.Shown.{length-shown, queue-count}
 
 -- ---- the highest waiting priority

@@ -1,6 +1,6 @@
 // Internal to the product: queues, the sender, and the advance frame by frame.
 ghost use mathlib.Core.Path.{_≡_};
-ghost use mathlib.Core.List.{_++_, _∷_, []};
+ghost use mathlib.Core.List.{_++_, _∷_};
 ghost use Prim.Native.Nat.{_+_, _≤_, _<_};
 ghost use lib.ListN.{length, take, drop};
 ghost use Rattle.model.specs.Units.{occupied, mostFrames};
@@ -114,7 +114,8 @@ fn start_if_any(queues: [Queue; 8], tick: u64) -> Sender
     let mut i: usize = 0;
     while i < 8 {
         if 0 < queues[i].count {
-            return Sender::Sending(i as u8, tick);
+            let p = i as u8;
+            return Sender::Sending(p, tick);
         }
         i += 1;
     }

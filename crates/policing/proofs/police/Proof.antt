@@ -1,40 +1,30 @@
+-- The two outcomes of the police check.
 use borrow.Author.Needs.{needs}
 use native.Mathlib.Omega.{arith}
 use Rattle.policing.proofs.Bucket.{is-policed, passes}
 use Rattle.policing.proofs.police.Statement.{statement}
 use Rattle.policing.proofs.police.Tie as tie
-use Rattle.policing.proofs.police.Reads as reads
-use Rattle.policing.proofs.police.Lts as lts
-use Rattle.policing.proofs.capped_sum.Reads as capped-sum-reads
-use Rattle.policing.proofs.less.Reads as less-reads
 
--- src/lib.rt:47:9
 less-requires : tie.Need-less-requires
 less-requires c κs = search needs
 
--- src/lib.rt:48:9
 less-requires-2 : tie.Need-less-requires-2
 less-requires-2 c κs = search needs
 
--- src/lib.rt:50:22
 add-grown : tie.Need-add-grown
 add-grown c = search needs
 
--- src/lib.rt:51:9
 returns : tie.Need-returns
 returns c v b j =
     let start = c .before .before .before .before in
     is-policed v (start .args .a) (start .args .time) (c .before .before .before .less .ensures) (omega arith) (c .before .if1 .taken)
 
--- src/lib.rt:56:37
 less-requires-3 : tie.Need-less-requires-3
 less-requires-3 c κs = search needs
 
--- src/lib.rt:56:9
 capped-sum-requires : tie.Need-capped-sum-requires
 capped-sum-requires c κs = search needs
 
--- src/lib.rt:44:1
 returns-2 : tie.Need-returns-2
 returns-2 c v b j =
     let start = c .before .before .before .before .before in

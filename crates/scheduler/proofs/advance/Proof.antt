@@ -1,3 +1,4 @@
+-- The loop of the advance: what has left so far, and the tick machine's advance from here. The measure is the frames held.
 use borrow.Author.Needs.{needs}
 use mathlib.Core.Path.{_≡_, sym, ap, _∙_}
 use Prim.Native.Nat.{_≤_}
@@ -13,13 +14,6 @@ use Rattle.scheduler.proofs.Shown.{queue-count, head-shown}
 use Rattle.scheduler.proofs.Progress.{Progress, at-start, is-sending, over-idle, over-sending, has-room, one-more, fewer}
 use Rattle.scheduler.proofs.advance.Statement.{statement}
 use Rattle.scheduler.proofs.advance.Tie as tie
-use Rattle.scheduler.proofs.advance.Reads as reads
-use Rattle.scheduler.proofs.advance.Lts as lts
-use Rattle.scheduler.proofs.occupancy.Reads as occupancy-reads
-use Rattle.scheduler.proofs.put.Reads as put-reads
-use Rattle.scheduler.proofs.sender_from.Reads as sender-from-reads
-use Rattle.scheduler.proofs.wide.Reads as wide-reads
-use Rattle.scheduler.proofs.without_head.Reads as without-head-reads
 
 abbrev Inv-loop : tie.InvT-loop
 Inv-loop sender₀ clock time list₀ queues₀ tick₀ frames₀ bytes₀ sender list queues tick frames bytes =
@@ -37,90 +31,69 @@ on c = is-sending (c .before .before .before .sender-from .ensures) (c .before .
 head : (c : tie.After-known-told Inv-loop μ-loop) → headOf (queuesOf (c .before .before .before .before .loop .queues)) (c .before .sender .given .0 .0) ≡ frameOf (getD (getD (c .before .before .before .before .loop .queues) (c .before .sender .given .0 .0) blankQueue .frames) 0 blankEntry)
 head c = head-shown (c .before .before .before .before .loop .queues) (c .before .sender .given .0 .0) (on c .waits)
 
--- src/lib.rt:164:5
 loop-holds : tie.Need-loop-holds Inv-loop μ-loop
 loop-holds c = (at-start (queues-eight (c .before .args .t1) _ (c .before .good .0)) (c .before .pre), c .before .pre .early)
 
--- src/lib.rt:165:9
 sender-from-requires : tie.Need-sender-from-requires Inv-loop μ-loop
 sender-from-requires c κs = let f = c .loop .inv .0 in (f .positive, f .sends, f .later)
 
--- src/lib.rt:166:29
 enum-known-sender : tie.Need-enum-known-sender Inv-loop μ-loop
 enum-known-sender c = search needs
 
--- src/lib.rt:167:13
 enum-told : tie.Need-enum-told Inv-loop μ-loop
 enum-told c = search needs
 
--- src/lib.rt:169:17
 cast-i : tie.Need-cast-i Inv-loop μ-loop
 cast-i c = let o = on c in omega arith
 
--- src/lib.rt:170:17
 mul-q : tie.Need-mul-q Inv-loop μ-loop
 mul-q c = let o = on c in omega arith
 
--- src/lib.rt:170:17
 array-copy-out-q : tie.Need-array-copy-out-q Inv-loop μ-loop
 array-copy-out-q c = on c .inRange
 
--- src/lib.rt:171:17
 element-copy-out-f : tie.Need-element-copy-out-f Inv-loop μ-loop
 element-copy-out-f c = search needs
 
--- src/lib.rt:172:13
 wide-requires : tie.Need-wide-requires Inv-loop μ-loop
 wide-requires c κs = search needs
 
--- src/lib.rt:173:19
 add-end : tie.Need-add-end Inv-loop μ-loop
 add-end c = let o = on (c .before .before .before) in omega (arith, c .before .before .before .before .before .before .before .loop .inv .0 .later, c .before .before .before .before .before .before .before .loop .inv .1)
 
--- src/lib.rt:177:19
 mul-put : tie.Need-mul-put Inv-loop μ-loop
 mul-put c = omega (arith, c .before .before .before .before .before .before .before .before .before .loop .inv .0 .most)
 
--- src/lib.rt:177:31
 wide-requires-2 : tie.Need-wide-requires-2 Inv-loop μ-loop
 wide-requires-2 c κs = search needs
 
--- src/lib.rt:177:9
 put-requires : tie.Need-put-requires Inv-loop μ-loop
 put-requires c κs = has-room (c .before .before .before .before .before .before .before .before .before .before .loop .inv .0) (c .before .before .before .before .before .before .before .before .before .sender-from .ensures) (c .before .before .before .before .before .before .before .sender .given .1)
 
--- src/lib.rt:178:13
 without-head-requires : tie.Need-without-head-requires Inv-loop μ-loop
 without-head-requires c κs =
     let k = c .before .before .before .before .before .before .before .before .before in
     let n = queue-count (c .before .before .before .before .before .before .before .before .before .before .before .before .before .loop .queues) (c .before .before .before .before .before .before .before .before .before .before .sender .given .0 .0) in
     (omega (arith, on k .waits), omega (arith, c .before .before .before .before .before .before .before .before .before .before .before .before .before .loop .inv .0 .few (c .before .before .before .before .before .before .before .before .before .before .sender .given .0 .0)))
 
--- src/lib.rt:179:9
 mul-queues : tie.Need-mul-queues Inv-loop μ-loop
 mul-queues c = let o = on (c .before .before .before .before .before .before .before .before .before .before) in omega arith
 
--- src/lib.rt:179:9
 array-set-from-queues : tie.Need-array-set-from-queues Inv-loop μ-loop
 array-set-from-queues c = on (c .before .before .before .before .before .before .before .before .before .before) .inRange
 
--- src/lib.rt:182:9
 add-frames : tie.Need-add-frames Inv-loop μ-loop
 add-frames c = omega (arith, c .before .before .before .before .before .before .before .before .before .before .before .before .before .before .loop .inv .0 .most)
 
--- src/lib.rt:183:18
 occupancy-requires : tie.Need-occupancy-requires Inv-loop μ-loop
 occupancy-requires c κs = search needs
 
--- src/lib.rt:183:9
 add-bytes : tie.Need-add-bytes Inv-loop μ-loop
 add-bytes c = omega (arith, c .before .before .before .before .before .before .before .before .before .before .before .before .before .before .before .loop .inv .0 .most, c .before .before .before .before .before .before .before .before .before .before .before .before .before .before .before .loop .inv .0 .small, c .occupancy .ensures .1)
 
--- src/lib.rt:164:5
 loop-less : tie.Need-loop-less Inv-loop μ-loop
 loop-less c = fewer (c .before .before .before .before .before .before .before .before .before .before .before .before .before .before .before .loop .inv .0) (c .before .before .before .before .before .before .before .before .before .before .before .before .before .before .sender-from .ensures) (c .before .before .before .before .before .before .before .before .before .before .before .before .sender .given .1) (c .before .without-head .ensures)
 
--- src/lib.rt:164:5
 loop-again : tie.Need-loop-again Inv-loop μ-loop
 loop-again c =
     let h = head (c .before .before .before .before .before .before .before .before .before .before .before) in
@@ -131,19 +104,15 @@ loop-again c =
       c .before .before .before .before .before .before .before .before .before .before .before .before .before .before .before .loop .inv .1,
     )
 
--- src/lib.rt:149:1
 same-length : tie.Need-same-length Inv-loop μ-loop
 same-length c = c .before .before .before .loop .inv .0 .same
 
--- src/lib.rt:149:1
 returns : tie.Need-returns Inv-loop μ-loop
 returns c = over-idle (c .before .before .before .loop .inv .0) (c .before .before .sender-from .ensures) (c .enum-told .given .1)
 
--- src/lib.rt:149:1
 same-length-2 : tie.Need-same-length-2 Inv-loop μ-loop
 same-length-2 c = c .before .before .before .before .before .before .before .before .loop .inv .0 .same
 
--- src/lib.rt:149:1
 returns-2 : tie.Need-returns-2 Inv-loop μ-loop
 returns-2 c =
     over-sending (c .before .before .before .before .before .before .before .before .loop .inv .0) (c .before .before .before .before .before .before .before .sender-from .ensures) (c .before .before .before .before .before .sender .given .1)

@@ -1,17 +1,15 @@
-use mathlib.Core.Path.{_≡_, refl, sym, ap, _∙_}
-use Prim.Native.Nat.{ℕ, suc, _+_, _-_, _*_, _≤_, _<_}
+-- The sum is that of the queues before i.
+use mathlib.Core.Path.{_≡_, _∙_}
+use Prim.Native.Nat.{_-_, _*_, _≤_}
 use native.Mathlib.Omega.{arith}
 use borrow.Author.Needs.{needs}
-use lib.ListN.{length, take}
+use lib.ListN.{take}
 use Rattle.model.specs.Machine.{framesHeld}
 use Rattle.scheduler.specs.View.{queuesOf}
 use Rattle.scheduler.proofs.Shape.{queues-eight}
 use Rattle.scheduler.proofs.Sums.{frames-none, frames-more, frames-all}
 use Rattle.scheduler.proofs.frames_held.Statement.{statement}
 use Rattle.scheduler.proofs.frames_held.Tie as tie
-use Rattle.scheduler.proofs.frames_held.Reads as reads
-use Rattle.scheduler.proofs.frames_held.Lts as lts
-use Rattle.scheduler.proofs.wide.Reads as wide-reads
 
 abbrev Inv-loop : tie.InvT-loop
 Inv-loop queues sum₀ i₀ sum i = (i ≤ 8) × (sum ≤ 65535 * i) × (sum ≡ framesHeld (take i (queuesOf queues)))
@@ -19,35 +17,27 @@ Inv-loop queues sum₀ i₀ sum i = (i ≤ 8) × (sum ≤ 65535 * i) × (sum ≡
 abbrev μ-loop : tie.MeasureT-loop
 μ-loop queues sum₀ i₀ sum i = 8 - i
 
--- src/lib.rt:85:5
 loop-holds : tie.Need-loop-holds Inv-loop μ-loop
 loop-holds c = (omega arith, omega arith, frames-none (queuesOf (c .args .t1)))
 
--- src/lib.rt:86:21
 mul-wide : tie.Need-mul-wide Inv-loop μ-loop
 mul-wide c = omega arith
 
--- src/lib.rt:86:21
 element-copy-out-wide : tie.Need-element-copy-out-wide Inv-loop μ-loop
 element-copy-out-wide c = omega arith
 
--- src/lib.rt:86:16
 wide-requires : tie.Need-wide-requires Inv-loop μ-loop
 wide-requires c κs = search needs
 
--- src/lib.rt:86:9
 add-sum : tie.Need-add-sum Inv-loop μ-loop
 add-sum c = omega arith
 
--- src/lib.rt:87:9
 add-i : tie.Need-add-i Inv-loop μ-loop
 add-i c = omega arith
 
--- src/lib.rt:85:5
 loop-less : tie.Need-loop-less Inv-loop μ-loop
 loop-less c = omega arith
 
--- src/lib.rt:85:5
 loop-again : tie.Need-loop-again Inv-loop μ-loop
 loop-again c =
     let start = c .before .before .before in
@@ -55,7 +45,6 @@ loop-again c =
     let more = frames-more (start .args .t1) (c .before .before .loop .i) (omega arith) in
     (omega arith, omega arith, omega arith)
 
--- src/lib.rt:80:1
 returns : tie.Need-returns Inv-loop μ-loop
 returns c =
     let start = c .before .before in

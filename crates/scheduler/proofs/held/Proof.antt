@@ -1,15 +1,12 @@
-use mathlib.Core.Path.{_≡_, refl, sym, ap, _∙_}
-use Prim.Native.Nat.{ℕ, suc, _+_, _-_, _*_, _≤_, _<_}
+-- The sum is that of the frames before i.
+use mathlib.Core.Path.{_≡_, refl, _∙_}
+use Prim.Native.Nat.{_-_, _*_, _≤_}
 use native.Mathlib.Omega.{arith}
 use borrow.Author.Needs.{needs}
-use lib.ListN.{length}
 use Rattle.scheduler.proofs.Shape.{queue-whole}
 use Rattle.scheduler.proofs.Sums.{bytesBefore, bytes-none, bytes-more, bytes-all}
 use Rattle.scheduler.proofs.held.Statement.{statement}
 use Rattle.scheduler.proofs.held.Tie as tie
-use Rattle.scheduler.proofs.held.Reads as reads
-use Rattle.scheduler.proofs.held.Lts as lts
-use Rattle.scheduler.proofs.occupancy.Reads as occupancy-reads
 
 abbrev Inv-loop : tie.InvT-loop
 Inv-loop q n sum₀ i₀ sum i = (i ≤ n) × (n ≡ q .count) × (sum ≤ 65535 * i) × (sum ≡ bytesBefore i (q .frames))
@@ -17,39 +14,30 @@ Inv-loop q n sum₀ i₀ sum i = (i ≤ n) × (n ≡ q .count) × (sum ≤ 65535
 abbrev μ-loop : tie.MeasureT-loop
 μ-loop q n sum₀ i₀ sum i = n - i
 
--- src/lib.rt:57:13
 cast-n : tie.Need-cast-n Inv-loop μ-loop
 cast-n c = omega arith
 
--- src/lib.rt:60:5
 loop-holds : tie.Need-loop-holds Inv-loop μ-loop
 loop-holds c = (omega arith, refl, omega arith, bytes-none (c .args .t1 .frames))
 
--- src/lib.rt:61:26
 mul-occupancy : tie.Need-mul-occupancy Inv-loop μ-loop
 mul-occupancy c = omega arith
 
--- src/lib.rt:61:26
 element-copy-out-occupancy : tie.Need-element-copy-out-occupancy Inv-loop μ-loop
 element-copy-out-occupancy c = omega arith
 
--- src/lib.rt:61:16
 occupancy-requires : tie.Need-occupancy-requires Inv-loop μ-loop
 occupancy-requires c κs = search needs
 
--- src/lib.rt:61:9
 add-sum : tie.Need-add-sum Inv-loop μ-loop
 add-sum c = omega arith
 
--- src/lib.rt:62:9
 add-i : tie.Need-add-i Inv-loop μ-loop
 add-i c = omega arith
 
--- src/lib.rt:60:5
 loop-less : tie.Need-loop-less Inv-loop μ-loop
 loop-less c = omega arith
 
--- src/lib.rt:60:5
 loop-again : tie.Need-loop-again Inv-loop μ-loop
 loop-again c =
     let start = c .before .before .before in
@@ -57,7 +45,6 @@ loop-again c =
     let more = bytes-more (start .args .t1 .frames) (c .before .before .loop .i) (omega arith) in
     (omega arith, refl, omega arith, omega arith)
 
--- src/lib.rt:53:1
 returns : tie.Need-returns Inv-loop μ-loop
 returns c =
     let start = c .before .before in

@@ -1,52 +1,41 @@
-use mathlib.Core.Path.{_≡_, refl, sym, ap, _∙_}
-use mathlib.Core.List.{List, [], _∷_, _++_, append-assoc}
-use Prim.Native.Nat.{ℕ, suc, _+_, _-_, _*_, _≤_, _<_}
+-- Three stores one after the other.
+use mathlib.Core.Path.{_≡_, _∙_}
+use mathlib.Core.List.{[], _∷_, append-assoc}
+use Prim.Native.Nat.{suc, _+_}
 use native.Mathlib.Omega.{arith}
-use lib.ListN.{length, take, drop, set, length-set}
+use lib.ListN.{take, drop, length-set}
 use lib.Seq.{sets-eq}
 use borrow.Author.Needs.{needs}
 use Rattle.scheduler.proofs.put.Statement.{statement}
 use Rattle.scheduler.proofs.put.Tie as tie
-use Rattle.scheduler.proofs.put.Reads as reads
-use Rattle.scheduler.proofs.put.Lts as lts
 
--- src/lib.rt:143:5
 mul-list : tie.Need-mul-list
 mul-list c = search needs
 
--- src/lib.rt:143:5
 slice-write-list : tie.Need-slice-write-list
 slice-write-list c = search needs
 
--- src/lib.rt:144:10
 add-list : tie.Need-add-list
 add-list c = search needs
 
--- src/lib.rt:144:5
 mul-list-2 : tie.Need-mul-list-2
 mul-list-2 c = search needs
 
--- src/lib.rt:144:5
 slice-write-list-2 : tie.Need-slice-write-list-2
 slice-write-list-2 c = simp length-set (omega arith)
 
--- src/lib.rt:145:10
 add-list-2 : tie.Need-add-list-2
 add-list-2 c = search needs
 
--- src/lib.rt:145:5
 mul-list-3 : tie.Need-mul-list-3
 mul-list-3 c = search needs
 
--- src/lib.rt:145:5
 slice-write-list-3 : tie.Need-slice-write-list-3
 slice-write-list-3 c = simp length-set (omega arith)
 
--- src/lib.rt:139:1
 same-length : tie.Need-same-length
 same-length c = search needs
 
--- src/lib.rt:139:1
 returns : tie.Need-returns
 returns c =
     let s = c .args .list .now in

@@ -1,4 +1,5 @@
-use mathlib.Core.Path.{_≡_, refl, sym, ap, _∙_}
+-- The three cases: a frame is under way, time is up, or whoever waits starts.
+use mathlib.Core.Path.{ap, _∙_}
 use native.Mathlib.Omega.{arith}
 use Rattle.scheduler.specs.View.{queuesOf, senderOf}
 use Rattle.scheduler.proofs.Shape.{queues-eight}
@@ -7,34 +8,26 @@ use Rattle.scheduler.proofs.Starts.{stays, time-over, starts}
 use borrow.Author.Needs.{needs}
 use Rattle.scheduler.proofs.sender_from.Statement.{statement}
 use Rattle.scheduler.proofs.sender_from.Tie as tie
-use Rattle.scheduler.proofs.sender_from.Reads as reads
-use Rattle.scheduler.proofs.sender_from.Lts as lts
-use Rattle.scheduler.proofs.start_if_any.Reads as start-if-any-reads
 
 enum-told : tie.Need-enum-told
 enum-told c = search needs
 
--- src/lib.rt:130:9
 enum-told-2 : tie.Need-enum-told-2
 enum-told-2 c = search needs
 
--- src/lib.rt:130:9
 returns : tie.Need-returns
 returns c =
     let start = c .before .before in
     stays (queuesOf (start .args .queues)) (start .args .tick) (start .args .time) (c .enum-told2 .given .0 .0) (c .enum-told2 .given .0 .1 .0) (ap senderOf (c .enum-told2 .given .1)) (start .pre .1)
 
--- src/lib.rt:133:9
 returns-2 : tie.Need-returns-2
 returns-2 c =
     let start = c .before .before .before in
     time-over (queuesOf (start .args .queues)) (start .args .tick) (start .args .time) (ap senderOf (c .before .enum-told .given .1)) (omega arith) (omega arith)
 
--- src/lib.rt:135:5
 start-if-any-requires : tie.Need-start-if-any-requires
 start-if-any-requires c κs = search needs
 
--- src/lib.rt:125:1
 returns-3 : tie.Need-returns-3
 returns-3 c =
     let start = c .before .before .before .before in

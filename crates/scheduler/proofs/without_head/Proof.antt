@@ -1,14 +1,12 @@
-use mathlib.Core.Path.{_≡_, refl, sym, ap, _∙_}
-use Prim.Native.Nat.{ℕ, suc, _+_, _-_, _*_, _≤_, _<_}
+-- The frames before i are those after the head; those past i are untouched.
+use mathlib.Core.Path.{_≡_, refl}
+use Prim.Native.Nat.{_-_, _≤_}
 use native.Mathlib.Omega.{arith}
-use lib.ListN.{length, length-set}
 use Rattle.scheduler.specs.View.{blankEntry}
 use Rattle.scheduler.proofs.Shape.{queue-whole}
 use Rattle.scheduler.proofs.Shift.{Shifted, shift-none, shift-more, head-gone}
 use Rattle.scheduler.proofs.without_head.Statement.{statement}
 use Rattle.scheduler.proofs.without_head.Tie as tie
-use Rattle.scheduler.proofs.without_head.Reads as reads
-use Rattle.scheduler.proofs.without_head.Lts as lts
 
 abbrev Inv-loop : tie.InvT-loop
 Inv-loop last n r₀ i₀ r i = (i ≤ n) × (n ≡ r₀ .count - 1) × (last ≡ n) × (r .mark ≡ r₀ .mark) × Shifted (r₀ .frames) (r .frames) i
@@ -16,47 +14,36 @@ Inv-loop last n r₀ i₀ r i = (i ≤ n) × (n ≡ r₀ .count - 1) × (last �
 abbrev μ-loop : tie.MeasureT-loop
 μ-loop last n r₀ i₀ r i = n - i
 
--- src/lib.rt:97:16
 sub-last : tie.Need-sub-last Inv-loop μ-loop
 sub-last c = omega arith
 
--- src/lib.rt:98:13
 cast-n : tie.Need-cast-n Inv-loop μ-loop
 cast-n c = omega arith
 
--- src/lib.rt:101:5
 loop-holds : tie.Need-loop-holds Inv-loop μ-loop
 loop-holds c = (omega arith, refl, refl, refl, shift-none blankEntry (c .before .args .q .frames))
 
--- src/lib.rt:102:26
 add-f : tie.Need-add-f Inv-loop μ-loop
 add-f c = omega arith
 
--- src/lib.rt:102:17
 mul-f : tie.Need-mul-f Inv-loop μ-loop
 mul-f c = omega arith
 
--- src/lib.rt:102:17
 element-copy-out-f : tie.Need-element-copy-out-f Inv-loop μ-loop
 element-copy-out-f c = omega arith
 
--- src/lib.rt:103:9
 mul-f-2 : tie.Need-mul-f-2 Inv-loop μ-loop
 mul-f-2 c = omega arith
 
--- src/lib.rt:103:9
 element-set-from-f : tie.Need-element-set-from-f Inv-loop μ-loop
 element-set-from-f c = omega arith
 
--- src/lib.rt:104:9
 add-i : tie.Need-add-i Inv-loop μ-loop
 add-i c = omega arith
 
--- src/lib.rt:101:5
 loop-less : tie.Need-loop-less Inv-loop μ-loop
 loop-less c = omega arith
 
--- src/lib.rt:101:5
 loop-again : tie.Need-loop-again Inv-loop μ-loop
 loop-again c =
     let start = c .before .before .before .before in
@@ -64,7 +51,6 @@ loop-again c =
     let w = queue-whole (start .args .q) _ (start .good .0) in
     (omega arith, refl, refl, loop .inv .3, shift-more blankEntry (start .args .q .frames) (loop .r .frames) (loop .i) (omega arith) (loop .inv .4))
 
--- src/lib.rt:93:1
 returns : tie.Need-returns Inv-loop μ-loop
 returns c =
     let start = c .before .before .before in

@@ -1,0 +1,39 @@
+-- For callers: what fitness tells of what an advance asks, and a frame queued among the eight.
+use mathlib.Core.Path.{_≡_}
+use mathlib.Core.List.{List}
+use Prim.Native.Nat.{ℕ, _*_, _≤_}
+use lib.ListN.{getD, set}
+use lib.Seq.{map-set-same}
+use Rattle.model.specs.Units.{lastTick}
+use Rattle.model.specs.Table.{Table}
+use Rattle.model.specs.Machine.{Frame, at, queueOf, queuedLast, framesHeld}
+use Rattle.model.specs.Report.{Port}
+use Rattle.model.proofs.Queues.{each-map}
+use Rattle.model.proofs.Lined.{lined-meets}
+use Rattle.model.proofs.Fitness.{Fit}
+use Rattle.scheduler.specs.declared.Frame.{Frame as FrameRecord}
+use Rattle.scheduler.specs.declared.Queue.{Queue}
+use Rattle.scheduler.specs.declared.Sender.{Sender as SenderRecord}
+use Rattle.scheduler.specs.View.{frameOf, blankQueue, queuesOf, marksOf, senderOf}
+use Rattle.scheduler.specs.Contracts.{Pushed, Ready}
+use Rattle.scheduler.proofs.Shown.{queue-shown, queues-set}
+
+-- the port's fitness, its tick tests and refusal 16 are what an advance asks
+pub fit-ready : (t : Table) (port : Port) {qs : List Queue} {s : SenderRecord} {clock time len : ℕ} → Fit t port → port .scheduler ≡ at clock (queuesOf qs) (senderOf s) →
+    clock ≤ time → time ≤ lastTick → 3 * framesHeld (queuesOf qs) ≤ len → Ready qs s clock time len
+fit-ready t port {qs} {s} {clock} {time} {len} k e later early room =
+    record {
+      few = λ p h. rw e at (k .few p h);
+      positive = λ p h. rw e at (each-map (λ (f : Frame) m. m .positive) (lined-meets t p (port .scheduler .clock) 0 (queueOf (port .scheduler .queues) p) (k .table) (k .lined p h)));
+      sender = rw e at (k .sender);
+      later = later;
+      early = early;
+      room = room;
+    }
+
+module _ (qs : List Queue) (p : ℕ) {f : FrameRecord} {r : Queue} (k : Pushed (getD qs p blankQueue) f r) where
+  pub queued-last : queuesOf (set qs p r) ≡ queuedLast (queuesOf qs) p (frameOf f)
+  queued-last = rw (queues-set, k .frames, queue-shown)
+
+  pub marks-same : marksOf (set qs p r) ≡ marksOf qs
+  marks-same = map-set-same (λ (q : Queue). q .mark) qs p r blankQueue (k .mark)
