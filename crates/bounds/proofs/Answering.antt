@@ -1,10 +1,10 @@
 -- The answer from the limits of the eight priorities.
 use mathlib.Core.Path.{_≡_, refl, sym, ap, _∙_}
 use mathlib.Core.Logic.{_≢_}
-use mathlib.Core.Bool.{Bool, true, false}
-use mathlib.Core.Option.{Option, none, some}
-use mathlib.Core.List.{List, [], _∷_, _++_}
-use Prim.Native.Nat.{ℕ, zero, suc, _+_, _-_, _≤_, _<_}
+use mathlib.Core.Bool.{true}
+use mathlib.Core.Option.{some}
+use mathlib.Core.List.{List}
+use Prim.Native.Nat.{ℕ, zero, suc, _+_, _≤_, _<_}
 use native.Mathlib.Decide.{ℕ-discrete}
 use native.Mathlib.Omega.{arith}
 use lib.ListN.{length, getD, set, length-set, replicate, length-replicate}
@@ -12,14 +12,14 @@ use lib.Seq.{ext-getD, getD-set-same, getD-set-other}
 use mir.Val.{Val}
 use denote.Laws.{Is}
 use denote.Struct.Declared.{row}
-use Rattle.model.specs.Basics.{Check, check, firstMet, firstRefusal, allTo, eight}
+use Rattle.model.specs.Basics.{firstRefusal, eight}
 use Rattle.model.specs.Link.{linkAt}
 use Rattle.model.specs.Table.{Table, tableChecks, tableRefusal}
-use Rattle.model.specs.Bounds.{holdOf, boundWithin, isThere, orZero, boundsRefusal, hold, bound, Sizing, sizedOr, sizing}
+use Rattle.model.specs.Bounds.{holdOf, boundWithin, isThere, orZero, boundsRefusal, hold, bound, sizedOr, sizing}
 use Rattle.model.proofs.Checks.{first-append}
 use Rattle.model.proofs.Lists.{getD-eight}
 use Rattle.model.proofs.TableFacts.{table-numbered}
-use Rattle.model.proofs.ValidTable.{Valid, valid}
+use Rattle.model.proofs.ValidTable.{valid}
 use Rattle.model.proofs.Holds.{no-hold, all-holds}
 use Rattle.table.specs.declared.Table.{Table as TableRecord}
 use Rattle.table.specs.View.{linkOf, fieldsOf, blankFields, linksOf, viewOf}

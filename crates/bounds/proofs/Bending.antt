@@ -1,6 +1,6 @@
 -- A function that bends down has its first greatest value where it first does not rise, and bisection on its slope finds the place.
-use mathlib.Core.Path.{_≡_, refl, sym, ap}
-use mathlib.Core.Logic.{_⊎_, inl, inr}
+use mathlib.Core.Path.{_≡_}
+use mathlib.Core.Logic.{inl, inr}
 use Prim.Native.Nat.{ℕ, zero, suc, _+_, _-_, _≤_, _<_, min}
 use native.Mathlib.Nat.{le-refl, eq-or-lt-of-le, lt-of-not-le}
 use native.Mathlib.Numerals.{add-one}

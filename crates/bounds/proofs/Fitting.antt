@@ -1,22 +1,21 @@
 -- Numbers of a link and a table that meet no check.
-use mathlib.Core.Path.{_≡_, refl, sym, ap, _∙_}
+use mathlib.Core.Path.{_≡_, refl}
 use mathlib.Core.Bool.{Bool, true, false, _&&_}
-use mathlib.Core.List.{List, [], _∷_}
-use Prim.Native.Nat.{ℕ, zero, suc, _+_, _-_, _*_, _/_, _≤_, _<_, max}
-use native.Mathlib.Nat.{le-refl, div-lt-iff-lt-mul, mul-le-mul-left}
+use Prim.Native.Nat.{ℕ, zero, suc, _+_, _*_, _/_, _≤_, _<_}
+use native.Mathlib.Nat.{div-lt-iff-lt-mul, mul-le-mul-left}
 use native.Mathlib.Omega.{arith}
-use lib.Dec.{leb, lit<}
+use lib.Dec.{leb}
 use borrow.Author.Tests.{le-leb, lt-leb}
-use lib.ListN.{length, getD}
+use lib.ListN.{length}
 use Rattle.model.specs.Basics.{provided}
-use Rattle.model.specs.Link.{VirtualLink, bagOf, linkAt}
+use Rattle.model.specs.Link.{bagOf, linkAt}
 use Rattle.model.specs.Arrival.{frameCurve}
 use Rattle.table.specs.declared.VirtualLink.{VirtualLink as LinkFields}
 use Rattle.table.specs.declared.Table.{Table as TableRecord}
 use Rattle.table.specs.View.{linkOf, fieldsOf, linksOf}
 use Rattle.table.proofs.Shape.{count-shown}
 use Rattle.bounds.specs.Fit.{FitLink, Fit}
-use Rattle.bounds.specs.Loads.{within, less}
+use Rattle.bounds.specs.Loads.{within}
 
 pub record BagFits (b : ℕ) : Type 0 where
   pub least : 12_500 ≤ b

@@ -1,10 +1,8 @@
 -- The greatest backlog so far, improved by a stretch.
-use mathlib.Core.Path.{_≡_, refl, sym, ap, _∙_}
-use Prim.Native.Nat.{ℕ, zero, suc, _+_, _-_, _≤_, _<_, min}
-use native.Mathlib.Nat.{le-refl, le-trans}
+use mathlib.Core.Path.{_≡_, _∙_}
+use Prim.Native.Nat.{ℕ, _+_, _-_, _≤_, min}
 use native.Mathlib.Decide.{decLe}
 use native.Mathlib.Omega.{arith}
-use lib.ListN.{getD}
 use Rattle.model.proofs.Curves.{sumTo-mono}
 use Rattle.bounds.specs.declared.arrivals.Loads.{Loads}
 use Rattle.bounds.specs.declared.stretch.Stretch.{Stretch}

@@ -1,27 +1,24 @@
 -- Hold, bound and window of one priority, from what the searches give.
-use mathlib.Core.Path.{_≡_, refl, sym, ap, _∙_}
-use mathlib.Core.Bool.{Bool, true, false, cond}
-use mathlib.Core.Option.{Option, none, some}
+use mathlib.Core.Path.{_≡_, refl}
+use mathlib.Core.Bool.{Bool, true, false}
 use mathlib.Core.List.{List, [], _∷_}
-use Prim.Native.Nat.{ℕ, zero, suc, _+_, _-_, _≤_, _<_, min, max}
+use Prim.Native.Nat.{ℕ, suc, _+_, _-_, _≤_, _<_, min, max}
 use native.Mathlib.Omega.{arith}
-use lib.Dec.{eqb}
 use lib.ListN.{length}
-use Rattle.model.specs.Basics.{provided, greatestTo, firstFrom}
+use Rattle.model.specs.Basics.{provided}
 use Rattle.model.specs.Link.{VirtualLink, linkAt, anyOf, greatestOver}
 use Rattle.model.specs.Table.{Table}
-use Rattle.model.specs.Bounds.{ofPriority, ownArrivals, upArrivals, blocking, longest, holdOf, backlog, boundWithin, orZero}
+use Rattle.model.specs.Bounds.{ofPriority, ownArrivals, upArrivals, blocking, longest, backlog, boundWithin, orZero}
 use Rattle.model.specs.Promises.{IsHold}
 use Rattle.model.proofs.Curves.{greatest-none}
 use Rattle.model.proofs.Holds.{up-grows}
 use Rattle.table.specs.declared.Table.{Table as TableRecord}
 use Rattle.table.specs.View.{linksOf, viewOf}
 use Rattle.table.proofs.Shape.{count-shown}
-use Rattle.bounds.specs.declared.limits.Limits.{Limits}
 use Rattle.bounds.specs.Fit.{Fit}
 use Rattle.bounds.specs.Peaks.{Highest}
 use Rattle.bounds.specs.Stretches.{Given}
-use Rattle.bounds.specs.Limits.{found, Climbed, windowWithin, Limited}
+use Rattle.bounds.specs.Limits.{Climbed, windowWithin, Limited}
 use Rattle.bounds.proofs.Fitting.{view-link}
 use Rattle.bounds.proofs.Highest.{highest-is, highest-first}
 

@@ -1,26 +1,24 @@
 -- The loads of the lines, one link more; the arrival curve is the flow of the loads.
-use mathlib.Core.Path.{_≡_, refl, sym, ap, _∙_}
+use mathlib.Core.Path.{_≡_, refl, sym}
 use mathlib.Core.Logic.{_≢_}
 use mathlib.Core.Bool.{Bool, true, false, _&&_}
-use mathlib.Core.List.{List, [], _∷_}
-use Prim.Native.Nat.{ℕ, zero, suc, _+_, _-_, _*_, _/_, _≤_, _<_, min, max}
+use mathlib.Core.List.{List}
+use Prim.Native.Nat.{ℕ, zero, suc, _+_, _*_, _/_, _≤_, _<_, min, max}
 use native.Mathlib.Nat.{le-refl}
 use native.Mathlib.Numerals.{add-one}
 use native.Mathlib.Decide.{ℕ-discrete}
 use native.Mathlib.Omega.{arith}
-use lib.Dec.{eqb}
 use borrow.Author.Tests.{eq-eqb, ne-eqb}
 use lib.ListN.{length, getD, take, set, length-set, replicate, length-replicate, getD-replicate}
 use lib.Seq.{getD-set-same, getD-set-other, take-all}
 use Rattle.model.specs.Basics.{provided, sumTo}
 use Rattle.model.specs.Link.{VirtualLink, linkAt, sumOver, greatestOver}
 use Rattle.model.specs.Arrival.{frameCurve, onLine, lineCurve, arrivalCurve}
-use Rattle.table.specs.declared.VirtualLink.{VirtualLink as LinkFields}
 use Rattle.table.specs.declared.Table.{Table as TableRecord}
 use Rattle.table.specs.View.{linkOf, blankFields, linksOf}
 use Rattle.table.proofs.Shape.{count-shown}
 use Rattle.bounds.specs.declared.arrivals.Loads.{Loads}
-use Rattle.bounds.specs.Fit.{FitLink, Fit}
+use Rattle.bounds.specs.Fit.{Fit}
 use Rattle.bounds.specs.Loads.{within, between, less, lineSum, lineTop, Counted, Loaded, flow}
 use Rattle.bounds.proofs.Sums.{sumTo-eq, sum-more, greatest-more, line-is}
 use Rattle.bounds.proofs.Fitting.{bag-fits, div-few, product-few, provided-few, view-count, view-link}

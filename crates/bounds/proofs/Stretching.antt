@@ -1,11 +1,9 @@
 -- The stretch that the code makes: its backlog is the paper's, and bends.
-use mathlib.Core.Path.{_≡_, refl, sym, ap, _∙_}
-use mathlib.Core.Bool.{Bool, true, false}
-use mathlib.Core.List.{List}
-use Prim.Native.Nat.{ℕ, zero, suc, _+_, _-_, _≤_, _<_, min}
+use mathlib.Core.Path.{_≡_, refl, _∙_}
+use Prim.Native.Nat.{ℕ, _-_, _≤_, min}
 use native.Mathlib.Decide.{decLe}
 use native.Mathlib.Omega.{arith}
-use lib.ListN.{length, getD}
+use lib.ListN.{length}
 use Rattle.model.specs.Bounds.{ownArrivals, upArrivals, blocking, longest, backlog}
 use Rattle.model.proofs.Holds.{up-grows}
 use Rattle.table.specs.declared.Table.{Table as TableRecord}
@@ -16,7 +14,7 @@ use Rattle.bounds.specs.declared.stretch.Stretch.{Stretch}
 use Rattle.bounds.specs.Fit.{Fit}
 use Rattle.bounds.specs.Loads.{between, less, Loaded, flow}
 use Rattle.bounds.specs.Peaks.{Bends}
-use Rattle.bounds.specs.Stretches.{Steady, Given, Sized, Steep, Stretched, backlogBy, backlogIn}
+use Rattle.bounds.specs.Stretches.{Steady, Given, Sized, Stretched, backlogBy, backlogIn}
 use Rattle.bounds.proofs.Loading.{flow-is, tops-few}
 use Rattle.bounds.proofs.Bending.{drained-bends}
 use Rattle.bounds.proofs.Steadiness.{steady-less, load-stays, flow-bends}

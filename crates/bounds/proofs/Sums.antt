@@ -1,11 +1,11 @@
 -- Sums and the greatest over links, one link more at the end; and what a line adds. For any set of links and any weight.
-use mathlib.Core.Path.{_≡_, refl, sym, ap, _∙_}
+use mathlib.Core.Path.{_≡_, refl}
 use mathlib.Core.Bool.{Bool, true, false}
 use mathlib.Core.List.{List, [], _∷_, _++_}
-use Prim.Native.Nat.{ℕ, zero, suc, _+_, _*_, _≤_, _<_, min, max}
+use Prim.Native.Nat.{ℕ, zero, suc, _+_, _<_, min, max}
 use native.Mathlib.Numerals.{add-one}
 use native.Mathlib.Omega.{arith}
-use lib.ListN.{length, getD, take}
+use lib.ListN.{length, take}
 use lib.Seq.{take-suc}
 use Rattle.model.specs.Basics.{provided, sumTo}
 use Rattle.model.specs.Link.{VirtualLink, blankLink, linkAt, anyOf, sumOver, greatestOver}

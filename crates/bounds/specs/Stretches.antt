@@ -14,7 +14,7 @@ use Rattle.table.specs.View.{linkOf}
 use Rattle.bounds.specs.declared.stretch.Stretch.{Stretch}
 use Rattle.bounds.specs.declared.stretch.Peak.{Peak}
 use Rattle.bounds.specs.Loads.{between, flow}
-use Rattle.bounds.specs.Peaks.{Bends, Crest, Highest}
+use Rattle.bounds.specs.Peaks.{Bends, Highest}
 
 -- N_v is the same from w to last, if v is of the set
 abbrev pub Stays : (VirtualLink → Bool) → VirtualLink → ℕ → ℕ → Type 0

@@ -3,7 +3,6 @@ use mathlib.Core.Path.{_≡_}
 use mathlib.Core.List.{List}
 use Prim.Native.Nat.{ℕ, _*_, _≤_}
 use lib.ListN.{getD, set}
-use lib.Seq.{map-set-same}
 use Rattle.model.specs.Units.{lastTick}
 use Rattle.model.specs.Table.{Table}
 use Rattle.model.specs.Machine.{Frame, at, queueOf, queuedLast, framesHeld}
@@ -14,7 +13,7 @@ use Rattle.model.proofs.Fitness.{Fit}
 use Rattle.scheduler.specs.declared.Frame.{Frame as FrameRecord}
 use Rattle.scheduler.specs.declared.Queue.{Queue}
 use Rattle.scheduler.specs.declared.Sender.{Sender as SenderRecord}
-use Rattle.scheduler.specs.View.{frameOf, blankQueue, queuesOf, marksOf, senderOf}
+use Rattle.scheduler.specs.View.{frameOf, blankQueue, queuesOf, senderOf}
 use Rattle.scheduler.specs.Contracts.{Pushed, Ready}
 use Rattle.scheduler.proofs.Shown.{queue-shown, queues-set}
 
@@ -31,9 +30,5 @@ fit-ready t port {qs} {s} {clock} {time} {len} k e later early room =
       room = room;
     }
 
-module _ (qs : List Queue) (p : ℕ) {f : FrameRecord} {r : Queue} (k : Pushed (getD qs p blankQueue) f r) where
-  pub queued-last : queuesOf (set qs p r) ≡ queuedLast (queuesOf qs) p (frameOf f)
-  queued-last = rw (queues-set, k .frames, queue-shown)
-
-  pub marks-same : marksOf (set qs p r) ≡ marksOf qs
-  marks-same = map-set-same (λ (q : Queue). q .mark) qs p r blankQueue (k .mark)
+pub queued-last : (qs : List Queue) (p : ℕ) {f : FrameRecord} {r : Queue} → Pushed (getD qs p blankQueue) f r → queuesOf (set qs p r) ≡ queuedLast (queuesOf qs) p (frameOf f)
+queued-last qs p k = rw (queues-set, k .frames, queue-shown)

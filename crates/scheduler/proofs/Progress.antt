@@ -20,7 +20,7 @@ use Rattle.scheduler.specs.declared.Sender.the-variants.{Idle, Sending}
 use Rattle.scheduler.specs.View.{blankQueue, queuesOf, marksOf, senderOf}
 use Rattle.scheduler.specs.Contracts.{Ready, advanceOf, Advanced}
 use Rattle.scheduler.specs.Sending.{UnderWay, Sends, Positive, GoesOn, HeadGone}
-use Rattle.scheduler.proofs.Shown.{length-shown, queue-count, gone-shown, marks-stay}
+use Rattle.scheduler.proofs.Shown.{length-shown, queue-count, gone-shown, marks-set}
 use Rattle.scheduler.proofs.Sums.{frames-gone, frames-few}
 use Rattle.scheduler.proofs.Departed.{freed-more, list-more}
 
@@ -39,7 +39,7 @@ pub record Progress (time : ℕ) (whole : Advance) (high list₀ : List ℕ) (qs
   pub count : k ≡ length gone
   pub sum : b ≡ bytesFreed gone
   pub small : b ≤ 65535 * k
-  pub most : k + framesHeld (queuesOf qs) ≤ 1560
+  pub most : k + framesHeld (queuesOf qs) ≤ mostFrames * 8
   pub room : 3 * (k + framesHeld (queuesOf qs)) ≤ length list₀
   pub listing : list ≡ flatMap threeNumbers gone ++ drop (3 * k) list₀
   pub same : length list ≡ length list₀
@@ -141,7 +141,7 @@ module _ {time : ℕ} {whole : Advance} {high list₀ : List ℕ} {qs : List Que
           record {
             gone = f .gone ++ (d ∷ []);
             split = rw (gone-shown qs p hg, le, ne) (w ∙ joined-joined (f .gone) (departure head (start + head .length) ∷ []) later);
-            marks = marks-stay qs p hg ∙ f .marks;
+            marks = marks-set qs p rest (hg .mark) ∙ f .marks;
             eight = rw length-set (f .eight);
             few =
                 rw (gone-shown qs p hg)

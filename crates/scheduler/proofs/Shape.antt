@@ -6,11 +6,12 @@ use mir.Val.{Val}
 use denote.Laws.{Is}
 use denote.Array.{Array}
 use denote.Struct.Declared.{row}
+use Rattle.model.specs.Units.{mostFrames}
 use Rattle.scheduler.specs.declared.Queue.{Queue}
 use Rattle.scheduler.proofs.Frame.{the-field as frame-field}
 use Rattle.scheduler.proofs.Queue.{the-type}
 
-pub queue-whole : (q : Queue) (vs : List Val) → Is (row the-type) q vs → length (q .frames) ≡ 195
+pub queue-whole : (q : Queue) (vs : List Val) → Is (row the-type) q vs → length (q .frames) ≡ mostFrames
 queue-whole q vs p = sym (length-map (q .frames) (frame-field .into)) ∙ p .1 .1 .1 .1 .0 .1 .0 .1
 
 pub queues-eight : (qs : List Queue) (vs : List Val) → Is (Array (row the-type) 8) qs vs → length qs ≡ 8

@@ -77,14 +77,13 @@ queues-set [] p r = refl
 queues-set (q ∷ qs) zero r = refl
 queues-set (q ∷ qs) (suc p) r = ap (λ (l : List (List Frame)). framesOf q ∷ l) (queues-set qs p r)
 
+pub marks-set : (qs : List Queue) (p : ℕ) (r : Queue) → r .mark ≡ getD qs p blankQueue .mark → marksOf (set qs p r) ≡ marksOf qs
+marks-set qs p r e = map-set-same (λ (q : Queue). q .mark) qs p r blankQueue e
+
 -- ---- the head of a queue, and the queues without it
 module _ (qs : List Queue) (p : ℕ) where
   pub head-shown : 0 < length (queueOf (queuesOf qs) p) → headOf (queuesOf qs) p ≡ frameOf (getD (getD qs p blankQueue .frames) 0 blankEntry)
   head-shown h = let n = queue-count qs p in rw queue-shown (oldest-shown (getD qs p blankQueue) (omega arith))
 
-  module _ {r : Queue} (gone : HeadGone (getD qs p blankQueue) r) where
-    pub gone-shown : queuesOf (set qs p r) ≡ withoutHead (queuesOf qs) p
-    gone-shown = rw (queues-set, gone .frames, queue-shown)
-
-    pub marks-stay : marksOf (set qs p r) ≡ marksOf qs
-    marks-stay = map-set-same (λ (q : Queue). q .mark) qs p r blankQueue (gone .mark)
+  pub gone-shown : {r : Queue} → HeadGone (getD qs p blankQueue) r → queuesOf (set qs p r) ≡ withoutHead (queuesOf qs) p
+  gone-shown gone = rw (queues-set, gone .frames, queue-shown)

@@ -15,11 +15,14 @@ pub struct Frame {
     pub arrival: u64,
 }
 
+// No queue counts more frames: 16,384 / 84.
+pub const MOST_FRAMES: usize = 195;
+
 // The first count frames are queued, the oldest first.
 pub struct Queue {
     pub count: u16,
     pub mark: u32,
-    pub frames: [Frame; 195],
+    pub frames: [Frame; MOST_FRAMES],
 }
 
 // Sending: the priority whose head is being sent, and the tick at which it started.

@@ -1,16 +1,11 @@
-use mathlib.Core.Path.{_≡_, refl, sym, _∙_}
-use Prim.Native.Nat.{_+_, _-_, _≤_, _<_}
+use mathlib.Core.Path.{_≡_, sym, _∙_}
+use Prim.Native.Nat.{_-_, _≤_}
 use borrow.Author.Needs.{needs}
 use native.Mathlib.Omega.{arith}
 use Rattle.table.specs.View.{viewOf}
 use Rattle.bounds.proofs.Answering.{fit-table, Known, known-none, known-more, table-refused, hold-refused, all-known}
 use Rattle.bounds.proofs.bounds_of.Statement.{statement}
 use Rattle.bounds.proofs.bounds_of.Tie as tie
-use Rattle.bounds.proofs.bounds_of.Reads as reads
-use Rattle.bounds.proofs.bounds_of.Lts as lts
-use Rattle.bounds.proofs.limits.limits_of.Reads as limits-of-reads
-use Rattle.bounds.proofs.refused.Reads as refused-reads
-use Rattle.table.proofs.check.Reads as check-reads
 
 abbrev Inv-loop : tie.InvT-loop
 Inv-loop t number bounds₀ holds₀ p₀ bounds holds p = (p ≤ 8) × Known (viewOf t) bounds holds p
@@ -18,40 +13,32 @@ Inv-loop t number bounds₀ holds₀ p₀ bounds holds p = (p ≤ 8) × Known (v
 abbrev μ-loop : tie.MeasureT-loop
 μ-loop t number bounds₀ holds₀ p₀ bounds holds p = 8 - p
 
--- src/lib.rt:36:9
 check-requires : tie.Need-check-requires Inv-loop μ-loop
 check-requires c κs = search needs
 
--- src/lib.rt:38:9
 refused-requires : tie.Need-refused-requires Inv-loop μ-loop
 refused-requires c κs = search needs
 
--- src/lib.rt:38:9
 returns : tie.Need-returns Inv-loop μ-loop
 returns c =
     let s = c .before .before .before in
     table-refused (viewOf (s .args .t)) (c .before .before .check .result) (c .before .before .check .ensures) (c .before .if1 .taken) (c .refused .result) (c .refused .ensures)
 
--- src/lib.rt:43:5
 loop-holds : tie.Need-loop-holds Inv-loop μ-loop
 loop-holds c = (omega arith, known-none (viewOf (c .before .before .args .t)))
 
--- src/lib.rt:44:38
 cast-limits-of : tie.Need-cast-limits-of Inv-loop μ-loop
 cast-limits-of c = omega arith
 
--- src/lib.rt:44:13
 limits-of-requires : tie.Need-limits-of-requires Inv-loop μ-loop
 limits-of-requires c κs =
     let s = c .before .before .before .before in
     let k = c .before .before .before .check in
     (fit-table (s .args .t) _ (s .good .0) (sym (k .ensures) ∙ c .before .before .if1 .left), omega arith)
 
--- src/lib.rt:46:13
 refused-requires-2 : tie.Need-refused-requires-2 Inv-loop μ-loop
 refused-requires-2 c κs = search needs
 
--- src/lib.rt:46:13
 returns-2 : tie.Need-returns-2 Inv-loop μ-loop
 returns-2 c =
     let s = c .before .before .before .before .before .before .before .before in
@@ -59,31 +46,24 @@ returns-2 c =
     let l = c .before .before .before .limits-of in
     hold-refused (viewOf (s .args .t)) (sym (k .ensures) ∙ c .before .before .before .before .before .before .if1 .left) (c .before .before .before .before .before .loop .p) (l .result) (omega arith) (l .ensures) (c .before .if2 .taken) (c .refused2 .result) (c .refused2 .ensures)
 
--- src/lib.rt:48:9
 mul-bounds : tie.Need-mul-bounds Inv-loop μ-loop
 mul-bounds c = omega arith
 
--- src/lib.rt:48:9
 array-write-bounds : tie.Need-array-write-bounds Inv-loop μ-loop
 array-write-bounds c = omega arith
 
--- src/lib.rt:49:9
 mul-holds : tie.Need-mul-holds Inv-loop μ-loop
 mul-holds c = omega arith
 
--- src/lib.rt:49:9
 array-write-holds : tie.Need-array-write-holds Inv-loop μ-loop
 array-write-holds c = omega arith
 
--- src/lib.rt:50:9
 add-p : tie.Need-add-p Inv-loop μ-loop
 add-p c = omega arith
 
--- src/lib.rt:43:5
 loop-less : tie.Need-loop-less Inv-loop μ-loop
 loop-less c = omega arith
 
--- src/lib.rt:43:5
 loop-again : tie.Need-loop-again Inv-loop μ-loop
 loop-again c =
     let s = c .before .before .before .before .before .before .before in
@@ -91,7 +71,6 @@ loop-again c =
     let l = c .before .before .limits-of in
     (omega arith, known-more (viewOf (s .args .t)) (o .bounds) (o .holds) (o .p) (o .inv .1) (omega arith) (l .result) (l .ensures) (c .if2 .left))
 
--- src/lib.rt:33:1
 returns-3 : tie.Need-returns-3 Inv-loop μ-loop
 returns-3 c =
     let s = c .before .before .before .before in

@@ -1,39 +1,27 @@
-use mathlib.Core.Path.{_≡_, _∙_}
-use Prim.Native.Nat.{_*_}
+use mathlib.Core.Path.{_∙_}
 use native.Mathlib.Omega.{arith}
 use Rattle.table.specs.View.{linksOf}
-use Rattle.bounds.specs.Loads.{between, less, flow}
+use Rattle.bounds.specs.Loads.{between, less}
 use Rattle.bounds.proofs.Loading.{tops-few, flow-is}
 use borrow.Author.Needs.{needs}
 use Rattle.bounds.proofs.arrivals.arrivals.Statement.{statement}
 use Rattle.bounds.proofs.arrivals.arrivals.Tie as tie
-use Rattle.bounds.proofs.arrivals.arrivals.Reads as reads
-use Rattle.bounds.proofs.arrivals.arrivals.Lts as lts
-use Rattle.bounds.proofs.arrivals.loads_of.Reads as loads-of-reads
-use Rattle.bounds.proofs.arrivals.total.Reads as total-reads
-use Rattle.bounds.proofs.arrivals.window_of.Reads as window-of-reads
-use Rattle.bounds.proofs.numbers.index.Reads as index-reads
 
--- src/arrivals.rt:123:25
 window-of-requires : tie.Need-window-of-requires
 window-of-requires c κs = search needs
 
--- src/arrivals.rt:123:9
 loads-of-requires : tie.Need-loads-of-requires
 loads-of-requires c κs = search needs
 
--- src/arrivals.rt:124:14
 index-requires : tie.Need-index-requires
 index-requires c κs = search needs
 
--- src/arrivals.rt:124:5
 total-requires : tie.Need-total-requires
 total-requires c κs =
     let s = c .before .before .before in
     let d = rw (c .before .before .window-of .ensures .0) at (c .before .loads-of .ensures) in
     (omega arith, s .pre .1, tops-few (s .args .t) (s .pre .0) (between (s .args .low) (s .args .high)) 0 (s .args .w) (s .pre .1) (c .before .loads-of .result) d)
 
--- src/arrivals.rt:119:1
 returns : tie.Need-returns
 returns c =
     let s = c .before .before .before .before in

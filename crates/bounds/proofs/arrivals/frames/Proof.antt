@@ -1,39 +1,28 @@
-use Prim.Native.Nat.{_≤_, _+_, _/_}
 use native.Mathlib.Omega.{arith}
 use Rattle.bounds.proofs.Fitting.{bag-fit, frames-few, frames-are}
 use borrow.Author.Needs.{needs}
 use Rattle.bounds.proofs.arrivals.frames.Statement.{statement}
 use Rattle.bounds.proofs.arrivals.frames.Tie as tie
-use Rattle.bounds.proofs.arrivals.frames.Reads as reads
-use Rattle.bounds.proofs.arrivals.frames.Lts as lts
-use Rattle.bounds.proofs.numbers.wide32.Reads as wide32-reads
-use Rattle.table.proofs.bag.Reads as bag-reads
 
--- src/arrivals.rt:26:14
 wide32-requires : tie.Need-wide32-requires
 wide32-requires c κs = search needs
 
--- src/arrivals.rt:26:10
 add-result : tie.Need-add-result
 add-result c = search needs
 
--- src/arrivals.rt:26:43
 bag-requires : tie.Need-bag-requires
 bag-requires c κs = search needs
 
--- src/arrivals.rt:26:9
 div-result : tie.Need-div-result
 div-result c =
     let a = c .before .before .args in
     omega (arith, bag-fit (a .l) (a .w) (c .bag .result) (c .before .wide32 .result) (c .bag .ensures) (c .before .wide32 .ensures) .least)
 
--- src/arrivals.rt:26:5
 add-result-2 : tie.Need-add-result-2
 add-result-2 c =
     let s = c .before .before in
     omega (arith, frames-few (s .args .l) (s .args .w) (c .bag .result) (c .before .wide32 .result) (c .bag .ensures) (c .before .wide32 .ensures) (s .pre .0) (s .pre .1))
 
--- src/arrivals.rt:22:1
 returns : tie.Need-returns
 returns c =
     let s = c .before .before in (

@@ -9,11 +9,6 @@ use Rattle.bounds.proofs.Fitting.{product-few}
 use Rattle.bounds.proofs.Loading.{loadsOf, load-none, load-step, sum-fits, load-all}
 use Rattle.bounds.proofs.arrivals.loads_of.Statement.{statement}
 use Rattle.bounds.proofs.arrivals.loads_of.Tie as tie
-use Rattle.bounds.proofs.arrivals.loads_of.Reads as reads
-use Rattle.bounds.proofs.arrivals.loads_of.Lts as lts
-use Rattle.bounds.proofs.arrivals.weight.Reads as weight-reads
-use Rattle.bounds.proofs.numbers.index.Reads as index-reads
-use Rattle.bounds.proofs.numbers.larger.Reads as larger-reads
 
 abbrev Inv-loop : tie.InvT-loop
 Inv-loop low high cut t window count sums₀ tops₀ i₀ sums tops i = (i ≤ t .count) × (count ≡ t .count) × Loaded (less cut) (between low high) (take i (linksOf t)) (window .ticks) (loadsOf sums tops)
@@ -21,56 +16,44 @@ Inv-loop low high cut t window count sums₀ tops₀ i₀ sums tops i = (i ≤ t
 abbrev μ-loop : tie.MeasureT-loop
 μ-loop low high cut t window count sums₀ tops₀ i₀ sums tops i = t .count - i
 
--- src/arrivals.rt:89:9
 index-requires : tie.Need-index-requires Inv-loop μ-loop
 index-requires c κs = search needs
 
--- src/arrivals.rt:93:5
 loop-holds : tie.Need-loop-holds Inv-loop μ-loop
 loop-holds c =
     let a = c .before .args in
     (omega arith, c .index .ensures, load-none (less (a .cut)) (between (a .low) (a .high)) (linksOf (a .t1)) (a .t2 .ticks))
 
--- src/arrivals.rt:94:17
 mul-l : tie.Need-mul-l Inv-loop μ-loop
 mul-l c = omega arith
 
--- src/arrivals.rt:94:17
 element-copy-out-l : tie.Need-element-copy-out-l Inv-loop μ-loop
 element-copy-out-l c = omega arith
 
--- src/arrivals.rt:95:17
 cast-k : tie.Need-cast-k Inv-loop μ-loop
 cast-k c = omega arith
 
--- src/arrivals.rt:96:13
 weight-requires : tie.Need-weight-requires Inv-loop μ-loop
 weight-requires c κs = c .before .before .before .before .before .pre .0 .each (c .before .before .before .loop .i) (omega arith)
 
--- src/arrivals.rt:97:19
 mul-sums : tie.Need-mul-sums Inv-loop μ-loop
 mul-sums c = omega (arith, c .before .before .before .before .before .before .pre .0 .each (c .before .before .before .before .loop .i) (omega arith) .line)
 
--- src/arrivals.rt:97:19
 array-read-sums : tie.Need-array-read-sums Inv-loop μ-loop
 array-read-sums c = omega (arith, c .before .before .before .before .before .before .pre .0 .each (c .before .before .before .before .loop .i) (omega arith) .line)
 
--- src/arrivals.rt:97:33
 mul-sums-2 : tie.Need-mul-sums-2 Inv-loop μ-loop
 mul-sums-2 c = omega arith
 
--- src/arrivals.rt:97:33
 element-copy-out-sums : tie.Need-element-copy-out-sums Inv-loop μ-loop
 element-copy-out-sums c = omega arith
 
--- src/arrivals.rt:97:29
 mul-sums-3 : tie.Need-mul-sums-3 Inv-loop μ-loop
 mul-sums-3 c =
     let s = c .before .before .before .before .before .before .before in
     let i = c .before .before .before .before .before .loop .i in
     omega (arith, product-few (c .before .weight .result) (getD (s .args .t2 .frames) i 0) (omega arith) (s .pre .1 .few i (omega arith)))
 
--- src/arrivals.rt:97:19
 add-sums : tie.Need-add-sums Inv-loop μ-loop
 add-sums c =
     let s = c .before .before .before .before .before .before .before in
@@ -81,43 +64,33 @@ add-sums c =
       sum-fits (s .args .t1) (s .pre .0) (s .args .low) (s .args .high) (s .args .cut) (s .args .t2 .ticks) (o .sums) (o .tops) (o .i) (omega arith) (o .inv .2) (s .pre .1 .ticks),
     )
 
--- src/arrivals.rt:97:9
 mul-sums-4 : tie.Need-mul-sums-4 Inv-loop μ-loop
 mul-sums-4 c = omega (arith, c .before .before .before .before .before .before .before .pre .0 .each (c .before .before .before .before .before .loop .i) (omega arith) .line)
 
--- src/arrivals.rt:97:9
 array-write-sums : tie.Need-array-write-sums Inv-loop μ-loop
 array-write-sums c = omega (arith, c .before .before .before .before .before .before .before .pre .0 .each (c .before .before .before .before .before .loop .i) (omega arith) .line)
 
--- src/arrivals.rt:98:35
 mul-larger : tie.Need-mul-larger Inv-loop μ-loop
 mul-larger c = omega (arith, c .before .before .before .before .before .before .before .pre .0 .each (c .before .before .before .before .before .loop .i) (omega arith) .line)
 
--- src/arrivals.rt:98:35
 array-read-larger : tie.Need-array-read-larger Inv-loop μ-loop
 array-read-larger c = omega (arith, c .before .before .before .before .before .before .before .pre .0 .each (c .before .before .before .before .before .loop .i) (omega arith) .line)
 
--- src/arrivals.rt:98:19
 larger-requires : tie.Need-larger-requires Inv-loop μ-loop
 larger-requires c κs = search needs
 
--- src/arrivals.rt:98:9
 mul-tops : tie.Need-mul-tops Inv-loop μ-loop
 mul-tops c = omega (arith, c .before .before .before .before .before .before .before .before .pre .0 .each (c .before .before .before .before .before .before .loop .i) (omega arith) .line)
 
--- src/arrivals.rt:98:9
 array-write-tops : tie.Need-array-write-tops Inv-loop μ-loop
 array-write-tops c = omega (arith, c .before .before .before .before .before .before .before .before .pre .0 .each (c .before .before .before .before .before .before .loop .i) (omega arith) .line)
 
--- src/arrivals.rt:99:9
 add-i : tie.Need-add-i Inv-loop μ-loop
 add-i c = omega arith
 
--- src/arrivals.rt:93:5
 loop-less : tie.Need-loop-less Inv-loop μ-loop
 loop-less c = omega arith
 
--- src/arrivals.rt:93:5
 loop-again : tie.Need-loop-again Inv-loop μ-loop
 loop-again c =
     let s = c .before .before .before .before .before .before .before .before in
@@ -129,7 +102,6 @@ loop-again c =
           (c .before .before .weight .result) n (c .larger .result) (c .before .before .weight .ensures .0) (s .pre .1 .each (o .i) (omega arith)) (c .larger .ensures),
     )
 
--- src/arrivals.rt:85:1
 returns : tie.Need-returns Inv-loop μ-loop
 returns c =
     let s = c .before .before .before in

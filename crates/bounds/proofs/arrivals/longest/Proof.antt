@@ -9,11 +9,6 @@ use Rattle.bounds.specs.Loads.{between}
 use Rattle.bounds.proofs.Loading.{longest-none, longest-step, longest-all}
 use Rattle.bounds.proofs.arrivals.longest.Statement.{statement}
 use Rattle.bounds.proofs.arrivals.longest.Tie as tie
-use Rattle.bounds.proofs.arrivals.longest.Reads as reads
-use Rattle.bounds.proofs.arrivals.longest.Lts as lts
-use Rattle.bounds.proofs.arrivals.weight.Reads as weight-reads
-use Rattle.bounds.proofs.numbers.index.Reads as index-reads
-use Rattle.bounds.proofs.numbers.larger.Reads as larger-reads
 
 abbrev Inv-loop : tie.InvT-loop
 Inv-loop low high t count top₀ i₀ top i = (i ≤ t .count) × (count ≡ t .count) × (top ≡ greatestOver (between low high) (λ v. v .greatest) (take i (linksOf t))) × (top ≤ 1_538)
@@ -21,39 +16,30 @@ Inv-loop low high t count top₀ i₀ top i = (i ≤ t .count) × (count ≡ t .
 abbrev μ-loop : tie.MeasureT-loop
 μ-loop low high t count top₀ i₀ top i = t .count - i
 
--- src/arrivals.rt:48:9
 index-requires : tie.Need-index-requires Inv-loop μ-loop
 index-requires c κs = search needs
 
--- src/arrivals.rt:51:5
 loop-holds : tie.Need-loop-holds Inv-loop μ-loop
 loop-holds c = (omega arith, c .index .ensures, longest-none (between (c .before .args .low) (c .before .args .high)) (linksOf (c .before .args .t1)), omega arith)
 
--- src/arrivals.rt:52:17
 mul-l : tie.Need-mul-l Inv-loop μ-loop
 mul-l c = omega arith
 
--- src/arrivals.rt:52:17
 element-copy-out-l : tie.Need-element-copy-out-l Inv-loop μ-loop
 element-copy-out-l c = omega arith
 
--- src/arrivals.rt:53:36
 weight-requires : tie.Need-weight-requires Inv-loop μ-loop
 weight-requires c κs = c .before .before .before .before .pre .each (c .before .before .loop .i) (omega arith)
 
--- src/arrivals.rt:53:9
 larger-requires : tie.Need-larger-requires Inv-loop μ-loop
 larger-requires c κs = search needs
 
--- src/arrivals.rt:54:9
 add-i : tie.Need-add-i Inv-loop μ-loop
 add-i c = omega arith
 
--- src/arrivals.rt:51:5
 loop-less : tie.Need-loop-less Inv-loop μ-loop
 loop-less c = omega arith
 
--- src/arrivals.rt:51:5
 loop-again : tie.Need-loop-again Inv-loop μ-loop
 loop-again c =
     let s = c .before .before .before .before .before .before in
@@ -64,7 +50,6 @@ loop-again c =
       omega arith,
     )
 
--- src/arrivals.rt:44:1
 returns : tie.Need-returns Inv-loop μ-loop
 returns c =
     let s = c .before .before .before in

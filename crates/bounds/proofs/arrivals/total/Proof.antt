@@ -6,9 +6,6 @@ use Rattle.bounds.specs.Loads.{flow}
 use Rattle.bounds.proofs.Loading.{flow-none, flow-more}
 use Rattle.bounds.proofs.arrivals.total.Statement.{statement}
 use Rattle.bounds.proofs.arrivals.total.Tie as tie
-use Rattle.bounds.proofs.arrivals.total.Reads as reads
-use Rattle.bounds.proofs.arrivals.total.Lts as lts
-use Rattle.bounds.proofs.numbers.smaller.Reads as smaller-reads
 
 abbrev Inv-loop : tie.InvT-loop
 Inv-loop lines w l sum₀ k₀ sum k = (k ≤ lines) × (sum ≡ flow l k w) × (sum ≤ 67_074 * k)
@@ -16,47 +13,36 @@ Inv-loop lines w l sum₀ k₀ sum k = (k ≤ lines) × (sum ≡ flow l k w) × 
 abbrev μ-loop : tie.MeasureT-loop
 μ-loop lines w l sum₀ k₀ sum k = lines - k
 
--- src/arrivals.rt:87:5
 loop-holds : tie.Need-loop-holds Inv-loop μ-loop
 loop-holds c = (omega arith, flow-none (c .args .t1) (c .args .w), omega arith)
 
--- src/arrivals.rt:88:33
 mul-smaller : tie.Need-mul-smaller Inv-loop μ-loop
 mul-smaller c = omega arith
 
--- src/arrivals.rt:88:33
 element-copy-out-smaller : tie.Need-element-copy-out-smaller Inv-loop μ-loop
 element-copy-out-smaller c = omega arith
 
--- src/arrivals.rt:88:48
 mul-smaller-2 : tie.Need-mul-smaller-2 Inv-loop μ-loop
 mul-smaller-2 c = omega arith
 
--- src/arrivals.rt:88:48
 element-copy-out-smaller-2 : tie.Need-element-copy-out-smaller-2 Inv-loop μ-loop
 element-copy-out-smaller-2 c = omega arith
 
--- src/arrivals.rt:88:44
 add-smaller : tie.Need-add-smaller Inv-loop μ-loop
 add-smaller c = omega (arith, c .before .before .before .before .pre .2 (c .before .before .before .loop .k) (omega arith))
 
--- src/arrivals.rt:88:16
 smaller-requires : tie.Need-smaller-requires Inv-loop μ-loop
 smaller-requires c κs = search needs
 
--- src/arrivals.rt:88:9
 add-sum : tie.Need-add-sum Inv-loop μ-loop
 add-sum c = omega (arith, c .before .before .before .before .before .pre .2 (c .before .before .before .before .loop .k) (omega arith))
 
--- src/arrivals.rt:89:9
 add-k : tie.Need-add-k Inv-loop μ-loop
 add-k c = omega arith
 
--- src/arrivals.rt:87:5
 loop-less : tie.Need-loop-less Inv-loop μ-loop
 loop-less c = omega arith
 
--- src/arrivals.rt:87:5
 loop-again : tie.Need-loop-again Inv-loop μ-loop
 loop-again c =
     let s = c .before .before .before .before .before in
@@ -64,7 +50,6 @@ loop-again c =
     let m = flow-more (s .args .t1) k (s .args .w) in
     (omega arith, omega arith, omega (arith, s .pre .2 k (omega arith)))
 
--- src/arrivals.rt:81:1
 returns : tie.Need-returns Inv-loop μ-loop
 returns c =
     let e : c .before .loop .k ≡ c .before .before .args .lines = omega arith in

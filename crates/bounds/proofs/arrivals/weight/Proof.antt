@@ -5,32 +5,23 @@ use Rattle.bounds.proofs.Fitting.{weight-low, weight-high, weight-in}
 use borrow.Author.Needs.{needs}
 use Rattle.bounds.proofs.arrivals.weight.Statement.{statement}
 use Rattle.bounds.proofs.arrivals.weight.Tie as tie
-use Rattle.bounds.proofs.arrivals.weight.Reads as reads
-use Rattle.bounds.proofs.arrivals.weight.Lts as lts
-use Rattle.bounds.proofs.numbers.excess.Reads as excess-reads
-use Rattle.bounds.proofs.numbers.wide16.Reads as wide16-reads
 
--- src/arrivals.rt:35:9
 returns : tie.Need-returns
 returns c =
     let a = c .before .before .args in
     (weight-low (a .low) (a .high) (a .l .priority) (less (a .cut) (a .l .greatest)) (c .if1 .taken), omega arith)
 
--- src/arrivals.rt:38:9
 returns-2 : tie.Need-returns-2
 returns-2 c =
     let a = c .before .before .before .before .args in
     (weight-high (a .low) (a .high) (a .l .priority) (less (a .cut) (a .l .greatest)) (c .if2 .taken), omega arith)
 
--- src/arrivals.rt:40:21
 wide16-requires : tie.Need-wide16-requires
 wide16-requires c κs = search needs
 
--- src/arrivals.rt:40:5
 excess-requires : tie.Need-excess-requires
 excess-requires c κs = search needs
 
--- src/arrivals.rt:30:1
 returns-3 : tie.Need-returns-3
 returns-3 c =
     let a = c .before .before .before .before .before .before .args in

@@ -3,24 +3,16 @@ use Rattle.bounds.proofs.Views.{blocking-is}
 use borrow.Author.Needs.{needs}
 use Rattle.bounds.proofs.busy.blocking_of.Statement.{statement}
 use Rattle.bounds.proofs.busy.blocking_of.Tie as tie
-use Rattle.bounds.proofs.busy.blocking_of.Reads as reads
-use Rattle.bounds.proofs.busy.blocking_of.Lts as lts
-use Rattle.bounds.proofs.arrivals.longest.Reads as longest-reads
-use Rattle.bounds.proofs.numbers.excess.Reads as excess-reads
 
--- src/busy.rt:17:18
 add-beyond : tie.Need-add-beyond
 add-beyond c = search needs
 
--- src/busy.rt:18:21
 longest-requires : tie.Need-longest-requires
 longest-requires c κs = search needs
 
--- src/busy.rt:18:5
 excess-requires : tie.Need-excess-requires
 excess-requires c κs = search needs
 
--- src/busy.rt:13:1
 returns : tie.Need-returns
 returns c =
     let s = c .before .before in

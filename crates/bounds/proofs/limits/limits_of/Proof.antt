@@ -1,5 +1,5 @@
-use mathlib.Core.Path.{_≡_, refl, _∙_}
-use Prim.Native.Nat.{_+_, _-_, _≤_, _<_}
+use mathlib.Core.Path.{_∙_}
+use Prim.Native.Nat.{_-_}
 use native.Mathlib.Omega.{arith}
 use Rattle.table.specs.View.{viewOf}
 use Rattle.bounds.proofs.Views.{longest-is}
@@ -7,38 +7,26 @@ use Rattle.bounds.proofs.Limiting.{none-of, some-of, limited-none, limi
 use borrow.Author.Needs.{needs}
 use Rattle.bounds.proofs.limits.limits_of.Statement.{statement}
 use Rattle.bounds.proofs.limits.limits_of.Tie as tie
-use Rattle.bounds.proofs.limits.limits_of.Reads as reads
-use Rattle.bounds.proofs.limits.limits_of.Lts as lts
-use Rattle.bounds.proofs.arrivals.longest.Reads as longest-reads
-use Rattle.bounds.proofs.busy.blocking_of.Reads as blocking-of-reads
-use Rattle.bounds.proofs.busy.hold_of.Reads as hold-of-reads
-use Rattle.bounds.proofs.stretch.peak_of.Reads as peak-of-reads
 
--- src/limits.rt:22:9
 blocking-of-requires : tie.Need-blocking-of-requires
 blocking-of-requires c κs = search needs
 
--- src/limits.rt:23:9
 hold-of-requires : tie.Need-hold-of-requires
 hold-of-requires c κs = search needs
 
--- src/limits.rt:25:9
 returns : tie.Need-returns
 returns c =
     let s = c .before .before .before in
     limited-none (viewOf (s .args .t)) (s .args .p) (c .before .hold-of .result) (c .if1 .taken) (c .before .hold-of .ensures)
 
--- src/limits.rt:31:9
 longest-requires : tie.Need-longest-requires
 longest-requires c κs = search needs
 
--- src/limits.rt:34:19
 cast-t8 : tie.Need-cast-t8
 cast-t8 c =
     let h = c .before .before .before .hold-of in
     omega (arith, h .ensures .smallest (omega arith) .most-is)
 
--- src/limits.rt:33:9
 returns-2 : tie.Need-returns-2
 returns-2 c =
     let s = c .before .before .before .before .before in
@@ -46,11 +34,9 @@ returns-2 c =
     limited-idle (viewOf (s .args .t)) (s .args .p) (c .before .before .before .hold-of .result) (c .before .before .before .hold-of .ensures)
     (none-of (s .args .t) (s .args .p) (g .result) (g .ensures .0 ∙ longest-is (s .args .t) (s .args .p)) (s .pre .0) (c .if2 .taken))
 
--- src/limits.rt:39:45
 sub-peak-of : tie.Need-sub-peak-of
 sub-peak-of c = search needs
 
--- src/limits.rt:39:9
 peak-of-requires : tie.Need-peak-of-requires
 peak-of-requires c κs =
     let s = c .before .before .before .before .before in
@@ -61,13 +47,11 @@ peak-of-requires c κs =
       s .pre .0,
     )
 
--- src/limits.rt:41:15
 cast-t10 : tie.Need-cast-t10
 cast-t10 c =
     let h = c .before .before .before .before .hold-of in
     omega (arith, h .ensures .smallest (omega arith) .most-is)
 
--- src/limits.rt:42:16
 cast-t11 : tie.Need-cast-t11
 cast-t11 c =
     let s = c .before .before .before .before .before .before .before in
@@ -80,14 +64,12 @@ cast-t11 c =
           (omega (arith, g .ensures .0 ∙ longest-is (s .args .t) (s .args .p), g .ensures .1)),
     )
 
--- src/limits.rt:43:17
 cast-t12 : tie.Need-cast-t12
 cast-t12 c =
     let h = c .before .before .before .before .before .before .hold-of in
     let k = c .before .before .peak-of in
     omega (arith, k .ensures .inside, h .ensures .smallest (omega arith) .most-is)
 
--- src/limits.rt:18:1
 returns-3 : tie.Need-returns-3
 returns-3 c =
     let s = c .before .before .before .before .before .before .before .before in

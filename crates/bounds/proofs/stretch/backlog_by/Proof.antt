@@ -1,43 +1,29 @@
-use native.Mathlib.Omega.{arith}
 use Rattle.bounds.proofs.Improving.{backlog-is}
 use borrow.Author.Needs.{needs}
 use Rattle.bounds.proofs.stretch.backlog_by.Statement.{statement}
 use Rattle.bounds.proofs.stretch.backlog_by.Tie as tie
-use Rattle.bounds.proofs.stretch.backlog_by.Reads as reads
-use Rattle.bounds.proofs.stretch.backlog_by.Lts as lts
-use Rattle.bounds.proofs.arrivals.total.Reads as total-reads
-use Rattle.bounds.proofs.numbers.excess.Reads as excess-reads
-use Rattle.bounds.proofs.numbers.smaller.Reads as smaller-reads
 
--- src/stretch.rt:88:9
 total-requires : tie.Need-total-requires
 total-requires c κs = search needs
 
--- src/stretch.rt:89:9
 total-requires-2 : tie.Need-total-requires-2
 total-requires-2 c κs = search needs
 
--- src/stretch.rt:90:44
 excess-requires : tie.Need-excess-requires
 excess-requires c κs = search needs
 
--- src/stretch.rt:90:25
 excess-requires-2 : tie.Need-excess-requires-2
 excess-requires-2 c κs = search needs
 
--- src/stretch.rt:90:25
 add-smaller : tie.Need-add-smaller
 add-smaller c = search needs
 
--- src/stretch.rt:90:25
 sub-smaller : tie.Need-sub-smaller
 sub-smaller c = search needs
 
--- src/stretch.rt:90:5
 smaller-requires : tie.Need-smaller-requires
 smaller-requires c κs = search needs
 
--- src/stretch.rt:82:1
 returns : tie.Need-returns
 returns c =
     let a = c .before .before .before .before .before .before .before .before .args in

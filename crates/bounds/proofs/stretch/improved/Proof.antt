@@ -1,37 +1,25 @@
-use native.Mathlib.Omega.{arith}
 use Rattle.bounds.proofs.Improving.{improved-by, improved-not}
 use borrow.Author.Needs.{needs}
 use Rattle.bounds.proofs.stretch.improved.Statement.{statement}
 use Rattle.bounds.proofs.stretch.improved.Tie as tie
-use Rattle.bounds.proofs.stretch.improved.Reads as reads
-use Rattle.bounds.proofs.stretch.improved.Lts as lts
-use Rattle.bounds.proofs.stretch.backlog_by.Reads as backlog-by-reads
-use Rattle.bounds.proofs.stretch.crest.Reads as crest-reads
-use Rattle.bounds.proofs.stretch.raised.Reads as raised-reads
 
--- src/stretch.rt:132:8
 backlog-by-requires : tie.Need-backlog-by-requires
 backlog-by-requires c κs = search needs
 
--- src/stretch.rt:133:9
 returns : tie.Need-returns
 returns c =
     let s = c .before .before .before in
     improved-not (s .args .s) (c .before .before .backlog-by .result) (s .args .best) (s .pre .order) (c .before .before .backlog-by .ensures) (c .if1 .taken)
 
--- src/stretch.rt:135:9
 crest-requires : tie.Need-crest-requires
 crest-requires c κs = search needs
 
--- src/stretch.rt:136:9
 backlog-by-requires-2 : tie.Need-backlog-by-requires-2
 backlog-by-requires-2 c κs = search needs
 
--- src/stretch.rt:137:5
 raised-requires : tie.Need-raised-requires
 raised-requires c κs = search needs
 
--- src/stretch.rt:128:1
 returns-2 : tie.Need-returns-2
 returns-2 c =
     let s = c .before .before .before .before .before .before in

@@ -1,51 +1,39 @@
-use Prim.Native.Nat.{_≤_, _<_, _*_}
+use Prim.Native.Nat.{_<_, _*_}
 use native.Mathlib.Omega.{arith}
-use Rattle.model.specs.Link.{bagOf}
 use Rattle.bounds.proofs.Fitting.{bag-fits}
 use Rattle.bounds.proofs.Steadiness.{link-steady, link-out, product-fits}
 use borrow.Author.Needs.{needs}
 use Rattle.bounds.proofs.stretch.link_steady.Statement.{statement}
 use Rattle.bounds.proofs.stretch.link_steady.Tie as tie
-use Rattle.bounds.proofs.stretch.link_steady.Reads as reads
-use Rattle.bounds.proofs.stretch.link_steady.Lts as lts
-use Rattle.bounds.proofs.numbers.wide32.Reads as wide32-reads
-use Rattle.table.proofs.bag.Reads as bag-reads
 
--- src/stretch.rt:41:9
 returns : tie.Need-returns
 returns c =
     let a = c .before .before .args in
     link-out (a .l) (a .high) (a .n) (c .if1 .taken)
 
--- src/stretch.rt:43:9
 bag-requires : tie.Need-bag-requires
 bag-requires c κs = search needs
 
--- src/stretch.rt:43:5
 mul-result : tie.Need-mul-result
 mul-result c =
     let s = c .before .before .before in
     omega (arith, product-fits (s .args .n) (c .bag .result) (s .pre .1) (omega (arith, bag-fits (s .args .l .code) .most)))
 
--- src/stretch.rt:43:30
 wide32-requires : tie.Need-wide32-requires
 wide32-requires c κs = search needs
 
--- src/stretch.rt:43:5
 sub-result : tie.Need-sub-result
 sub-result c =
     let s = c .before .before .before .before in
     let p : s .args .l .jitter < s .args .n * c .before .bag .result = rw (c .before .bag .ensures) (s .pre .2) in
     omega arith
 
--- src/stretch.rt:43:5
 sub-result-2 : tie.Need-sub-result-2
 sub-result-2 c =
     let s = c .before .before .before .before in
     let p : s .args .l .jitter < s .args .n * c .before .bag .result = rw (c .before .bag .ensures) (s .pre .2) in
     omega arith
 
--- src/stretch.rt:36:1
 returns-2 : tie.Need-returns-2
 returns-2 c =
     let a = c .before .before .before .before .args in

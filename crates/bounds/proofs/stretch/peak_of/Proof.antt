@@ -7,10 +7,6 @@ use Rattle.bounds.specs.Peaks.{Highest}
 use Rattle.bounds.proofs.Highest.{highest-none}
 use Rattle.bounds.proofs.stretch.peak_of.Statement.{statement}
 use Rattle.bounds.proofs.stretch.peak_of.Tie as tie
-use Rattle.bounds.proofs.stretch.peak_of.Reads as reads
-use Rattle.bounds.proofs.stretch.peak_of.Lts as lts
-use Rattle.bounds.proofs.stretch.improved.Reads as improved-reads
-use Rattle.bounds.proofs.stretch.stretch_at.Reads as stretch-at-reads
 
 abbrev Inv-loop : tie.InvT-loop
 Inv-loop t p blocking longest last best₀ w₀ best w = (w ≤ last + 1) × Highest (backlog (viewOf t) p) w (best .backlog) (best .window)
@@ -18,31 +14,25 @@ Inv-loop t p blocking longest last best₀ w₀ best w = (w ≤ last + 1) × Hig
 abbrev μ-loop : tie.MeasureT-loop
 μ-loop t p blocking longest last best₀ w₀ best w = last + 1 - w
 
--- src/stretch.rt:150:5
 loop-holds : tie.Need-loop-holds Inv-loop μ-loop
 loop-holds c = (omega arith, highest-none (backlog (viewOf (c .args .t)) (c .args .p)))
 
--- src/stretch.rt:151:13
 stretch-at-requires : tie.Need-stretch-at-requires Inv-loop μ-loop
 stretch-at-requires c κs = (c .before .before .pre .0, c .before .before .pre .1, omega arith)
 
--- src/stretch.rt:152:9
 improved-requires : tie.Need-improved-requires Inv-loop μ-loop
 improved-requires c κs = c .stretch-at .ensures .steep
 
--- src/stretch.rt:153:13
 add-w : tie.Need-add-w Inv-loop μ-loop
 add-w c =
     let r = c .before .before .stretch-at .ensures in
     omega (arith, r .steep .last-most)
 
--- src/stretch.rt:150:5
 loop-less : tie.Need-loop-less Inv-loop μ-loop
 loop-less c =
     let r = c .before .before .stretch-at .ensures in
     omega (arith, r .start-is, r .within, r .steep .order)
 
--- src/stretch.rt:150:5
 loop-again : tie.Need-loop-again Inv-loop μ-loop
 loop-again c =
     let r = c .before .before .stretch-at .ensures in
@@ -50,7 +40,6 @@ loop-again c =
     let o = c .before .before .before .before .loop in
     (omega (arith, r .within), c .before .improved .ensures .lift (backlog (viewOf (s .args .t)) (s .args .p)) (r .same) (rw (r .start-is) (o .inv .1)))
 
--- src/stretch.rt:141:1
 returns : tie.Need-returns Inv-loop μ-loop
 returns c =
     let e : c .before .loop .w ≡ c .before .before .args .last + 1 = omega arith in

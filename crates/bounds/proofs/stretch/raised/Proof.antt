@@ -2,14 +2,10 @@ use mathlib.Core.Path.{refl}
 use native.Mathlib.Omega.{arith}
 use Rattle.bounds.proofs.stretch.raised.Statement.{statement}
 use Rattle.bounds.proofs.stretch.raised.Tie as tie
-use Rattle.bounds.proofs.stretch.raised.Reads as reads
-use Rattle.bounds.proofs.stretch.raised.Lts as lts
 
--- src/stretch.rt:118:9
 returns : tie.Need-returns
 returns c = record { new = λ _. refl; old = λ h. absurd (omega arith) }
 
--- src/stretch.rt:114:1
 returns-2 : tie.Need-returns-2
 returns-2 c = record { new = λ h. absurd (omega arith); old = λ _. refl }
 

@@ -9,11 +9,6 @@ use Rattle.bounds.specs.Stretches.{Steady}
 use Rattle.bounds.proofs.Steadiness.{jitter-below, steady-past, steady-step}
 use Rattle.bounds.proofs.stretch.steady.Statement.{statement}
 use Rattle.bounds.proofs.stretch.steady.Tie as tie
-use Rattle.bounds.proofs.stretch.steady.Reads as reads
-use Rattle.bounds.proofs.stretch.steady.Lts as lts
-use Rattle.bounds.proofs.numbers.index.Reads as index-reads
-use Rattle.bounds.proofs.numbers.smaller.Reads as smaller-reads
-use Rattle.bounds.proofs.stretch.link_steady.Reads as link-steady-reads
 
 abbrev Inv-loop : tie.InvT-loop
 Inv-loop high t window count last₀ i₀ last i = (i ≤ t .count) × (count ≡ t .count) × (window .ticks ≤ last) × Steady (between 0 high) (linksOf t) i (window .ticks) last
@@ -21,31 +16,24 @@ Inv-loop high t window count last₀ i₀ last i = (i ≤ t .count) × (count �
 abbrev μ-loop : tie.MeasureT-loop
 μ-loop high t window count last₀ i₀ last i = t .count - i
 
--- src/stretch.rt:51:9
 index-requires : tie.Need-index-requires Inv-loop μ-loop
 index-requires c κs = search needs
 
--- src/stretch.rt:54:5
 loop-holds : tie.Need-loop-holds Inv-loop μ-loop
 loop-holds c = (omega arith, c .index .ensures, omega arith, λ i h. absurd (omega arith))
 
--- src/stretch.rt:55:17
 mul-l : tie.Need-mul-l Inv-loop μ-loop
 mul-l c = omega arith
 
--- src/stretch.rt:55:17
 element-copy-out-l : tie.Need-element-copy-out-l Inv-loop μ-loop
 element-copy-out-l c = omega arith
 
--- src/stretch.rt:56:17
 mul-n : tie.Need-mul-n Inv-loop μ-loop
 mul-n c = omega arith
 
--- src/stretch.rt:56:17
 element-copy-out-n : tie.Need-element-copy-out-n Inv-loop μ-loop
 element-copy-out-n c = omega arith
 
--- src/stretch.rt:57:39
 link-steady-requires : tie.Need-link-steady-requires Inv-loop μ-loop
 link-steady-requires c κs =
     let s = c .before .before .before .before .before in
@@ -55,19 +43,15 @@ link-steady-requires c κs =
       jitter-below (s .args .t1) (s .pre .0) i (omega arith) (s .args .t2 .ticks) (getD (s .args .t2 .frames) i 0) (s .pre .1 .each i (omega arith)),
     )
 
--- src/stretch.rt:57:9
 smaller-requires : tie.Need-smaller-requires Inv-loop μ-loop
 smaller-requires c κs = search needs
 
--- src/stretch.rt:58:9
 add-i : tie.Need-add-i Inv-loop μ-loop
 add-i c = omega arith
 
--- src/stretch.rt:54:5
 loop-less : tie.Need-loop-less Inv-loop μ-loop
 loop-less c = omega arith
 
--- src/stretch.rt:54:5
 loop-again : tie.Need-loop-again Inv-loop μ-loop
 loop-again c =
     let s = c .before .before .before .before .before .before .before in
@@ -81,7 +65,6 @@ loop-again c =
       steady-step (s .args .t1) (s .pre .0) (o .i) (omega arith) (s .args .t2 .ticks) n e (s .args .high) (d .result) (d .ensures) (o .last) (c .smaller .result) (o .inv .3) (c .smaller .ensures),
     )
 
--- src/stretch.rt:47:1
 returns : tie.Need-returns Inv-loop μ-loop
 returns c = (omega arith, λ i h. c .before .loop .inv .3 i (omega arith))
 

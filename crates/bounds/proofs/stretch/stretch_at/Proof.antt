@@ -1,41 +1,26 @@
-use native.Mathlib.Omega.{arith}
 use Rattle.bounds.proofs.Stretching.{stretched}
 use borrow.Author.Needs.{needs}
 use Rattle.bounds.proofs.stretch.stretch_at.Statement.{statement}
 use Rattle.bounds.proofs.stretch.stretch_at.Tie as tie
-use Rattle.bounds.proofs.stretch.stretch_at.Reads as reads
-use Rattle.bounds.proofs.stretch.stretch_at.Lts as lts
-use Rattle.bounds.proofs.arrivals.loads_of.Reads as loads-of-reads
-use Rattle.bounds.proofs.arrivals.window_of.Reads as window-of-reads
-use Rattle.bounds.proofs.numbers.index.Reads as index-reads
-use Rattle.bounds.proofs.numbers.smaller.Reads as smaller-reads
-use Rattle.bounds.proofs.stretch.steady.Reads as steady-reads
 
--- src/stretch.rt:68:9
 window-of-requires : tie.Need-window-of-requires
 window-of-requires c κs = search needs
 
--- src/stretch.rt:69:9
 loads-of-requires : tie.Need-loads-of-requires
 loads-of-requires c κs = search needs
 
--- src/stretch.rt:70:9
 loads-of-requires-2 : tie.Need-loads-of-requires-2
 loads-of-requires-2 c κs = search needs
 
--- src/stretch.rt:71:34
 steady-requires : tie.Need-steady-requires
 steady-requires c κs = search needs
 
--- src/stretch.rt:71:9
 smaller-requires : tie.Need-smaller-requires
 smaller-requires c κs = search needs
 
--- src/stretch.rt:72:9
 index-requires : tie.Need-index-requires
 index-requires c κs = search needs
 
--- src/stretch.rt:64:1
 returns : tie.Need-returns
 returns c =
     let s = c .before .before .before .before .before .before in

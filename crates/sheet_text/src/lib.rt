@@ -1,0 +1,47 @@
+// The sheet of a table file, as text in a fixed array.
+mod lines;
+mod numerals;
+
+ghost use mathlib.Core.Path.{_≡_};
+ghost use Prim.Native.Nat.{min};
+ghost use Rattle.model.specs.Basics.{firstRefusal};
+ghost use Rattle.model.specs.Sheet.{sheet};
+ghost use Rattle.sheet_text.specs.Fixed.{textOf};
+
+// A line has at most 61 bytes: 1 digit for the priority, 10 for each of three 32-bit numbers, 11 for spare, 13 for fill,
+// 5 blanks and the end. The header has 36, so 36 + 8 × 61 are the most that a sheet needs. Bytes behind len are 0.
+pub struct Text {
+    pub bytes: [u8; 524],
+    pub len: usize,
+}
+
+// The largest file has 4,652 bytes. One more shows that there are bytes left.
+fn used(len: usize) -> usize
+    ensures { λ r. ⌜ r ≡ min len 4653 ⌝ }
+{
+    if len < 4653 { len } else { 4653 }
+}
+
+fn first_refusal(file: u32, bounds: u32) -> u32
+    ensures { λ r. ⌜ r ≡ firstRefusal file bounds ⌝ }
+{
+    if file != 0 { file } else { bounds }
+}
+
+// The sheet of a table file, or `refused N` with the first refusal: the reader's, 1 to 7, then 8.
+pub fn text_of(input: &[u8]) -> Text
+    ensures { λ r. ⌜ r ≡ textOf (sheet (now (input .entry))) ⌝ }
+{
+    let end = used(input.len());
+    let reading = table::read(&input[..end]);
+    let t = reading.table;
+    let answer = bounds::bounds_of(t);
+    let refused = first_refusal(reading.refused, answer.refused);
+    if refused != 0 {
+        return lines::refusal_line(refused);
+    }
+    let bounds = answer.bounds;
+    let holds = answer.holds;
+    let sizes = t.sizes;
+    lines::table_lines(bounds, holds, sizes)
+}

@@ -1,0 +1,89 @@
+// The lines of the sheet.
+use crate::Text;
+use crate::numerals;
+ghost use mathlib.Core.Path.{_≡_};
+ghost use mathlib.Core.List.{[]};
+ghost use Prim.Native.Nat.{_+_, _≤_};
+ghost use lib.IntN.{pos, _-ℤ_};
+ghost use lib.ListN.{length};
+ghost use Rattle.model.specs.Sheet.{numeral, fill, sheetLine};
+ghost use Rattle.sheet_text.specs.Fixed.{textOf, Appended, column, tableLines, refusalLine};
+
+fn blank() -> Text
+    ensures { λ r. ⌜ r ≡ textOf [] ⌝ }
+{
+    Text {
+        bytes: [0u8; 524],
+        len: 0,
+    }
+}
+
+fn put_column(out: Text, n: u64) -> Text
+    requires { ⌜ out .len + length (numeral n) + 1 ≤ 524 ⌝ }
+    ensures { λ r. ⌜ Appended out r (column n) ⌝ }
+{
+    let numbered = numerals::put_numeral(out, n);
+    numerals::put(numbered, b" ")
+}
+
+// Exact at and below zero.
+fn spare(size: u32, bound: u32) -> i64
+    ensures { λ r. ⌜ r ≡ pos size -ℤ pos bound ⌝ }
+{
+    (size as i64) - (bound as i64)
+}
+
+// 1000 × bound / size, rounded up.
+fn full(bound: u32, size: u32) -> u64
+    requires { ⌜ 1 ≤ size ⌝ }
+    ensures { λ r. ⌜ (numeral r ≡ fill bound size) × (r ≤ 9999999999999) ⌝ }
+{
+    let whole = size as u64;
+    (1000 * (bound as u64) + whole - 1) / whole
+}
+
+fn put_fill(out: Text, bound: u32, size: u32) -> Text
+    requires { ⌜ out .len + 13 ≤ 524 ⌝ }
+    ensures { λ r. ⌜ Appended out r (fill bound size) ⌝ }
+{
+    if size == 0 {
+        return numerals::put(out, b"-");
+    }
+    numerals::put_numeral(out, full(bound, size))
+}
+
+fn put_line(out: Text, priority: usize, bound: u32, hold: u32, size: u32) -> Text
+    requires { ⌜ (priority ≤ 7) × (out .len + 61 ≤ 524) ⌝ }
+    ensures { λ r. ⌜ Appended out r (sheetLine priority bound hold size) × (r .len ≤ out .len + 61) ⌝ }
+{
+    let out = put_column(out, priority as u64);
+    let out = put_column(out, bound as u64);
+    let out = put_column(out, hold as u64);
+    let out = put_column(out, size as u64);
+    let out = numerals::put_signed(out, spare(size, bound));
+    let out = numerals::put(out, b" ");
+    let out = put_fill(out, bound, size);
+    numerals::put(out, b"\n")
+}
+
+// Each priority has its line, also where no link has that priority.
+pub(crate) fn table_lines(bounds: [u32; 8], holds: [u32; 8], sizes: [u32; 8]) -> Text
+    ensures { λ r. ⌜ r ≡ textOf (tableLines bounds holds sizes) ⌝ }
+{
+    let mut out = numerals::put(blank(), b"priority bound hold size spare fill\n");
+    let mut p: usize = 0;
+    while p < 8 {
+        let line = put_line(out, p, bounds[p], holds[p], sizes[p]);
+        out = line;
+        p += 1;
+    }
+    out
+}
+
+pub(crate) fn refusal_line(number: u32) -> Text
+    ensures { λ r. ⌜ r ≡ textOf (refusalLine number) ⌝ }
+{
+    let out = numerals::put(blank(), b"refused ");
+    let out = numerals::put_numeral(out, number as u64);
+    numerals::put(out, b"\n")
+}
