@@ -1,7 +1,7 @@
 -- The whole text, by the first refusal.
 use mathlib.Core.Path.{_≡_, refl, sym, ap, _∙_}
-use mathlib.Core.List.{List, [], _∷_, _++_, flatMap, append-assoc, append-nil}
-use Prim.Native.Nat.{ℕ, zero, suc, _≤_, _<_, min}
+use mathlib.Core.List.{List, flatMap, append-assoc, append-nil}
+use Prim.Native.Nat.{ℕ, zero, suc, min}
 use native.Mathlib.Decide.{decLe}
 use native.Mathlib.Omega.{arith}
 use lib.ListN.{length, take}
@@ -9,7 +9,7 @@ use lib.Seq.{take-all}
 use Rattle.model.specs.Basics.{eight, firstRefusal}
 use Rattle.model.specs.Table.{Table}
 use Rattle.model.specs.TableFile.{Reading, readTable}
-use Rattle.model.specs.Bounds.{boundsRefusal, bound, hold, Sizing, sizedOr, sizing}
+use Rattle.model.specs.Bounds.{boundsRefusal, bound, hold, sizedOr, sizing}
 use Rattle.model.specs.Sheet.{sheetOr, sheet}
 use Rattle.table.specs.declared.Reading.{Reading as ReadingRecord}
 use Rattle.table.specs.View.{viewOf, recordOf}

@@ -9,7 +9,7 @@ ghost use Rattle.model.specs.Sheet.{sheet};
 ghost use Rattle.sheet_text.specs.Fixed.{textOf};
 
 // A line has at most 61 bytes: 1 digit for the priority, 10 for each of three 32-bit numbers, 11 for spare, 13 for fill,
-// 5 blanks and the end. The header has 36, so 36 + 8 × 61 are the most that a sheet needs. Bytes behind len are 0.
+// 5 blanks and the end. The header has 36, so any sheet fits into 36 + 8 × 61. Bytes behind len are 0.
 pub struct Text {
     pub bytes: [u8; 524],
     pub len: usize,

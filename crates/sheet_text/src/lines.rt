@@ -34,7 +34,7 @@ fn spare(size: u32, bound: u32) -> i64
 }
 
 // 1000 × bound / size, rounded up.
-fn full(bound: u32, size: u32) -> u64
+fn per_mille(bound: u32, size: u32) -> u64
     requires { ⌜ 1 ≤ size ⌝ }
     ensures { λ r. ⌜ (numeral r ≡ fill bound size) × (r ≤ 9999999999999) ⌝ }
 {
@@ -49,7 +49,7 @@ fn put_fill(out: Text, bound: u32, size: u32) -> Text
     if size == 0 {
         return numerals::put(out, b"-");
     }
-    numerals::put_numeral(out, full(bound, size))
+    numerals::put_numeral(out, per_mille(bound, size))
 }
 
 fn put_line(out: Text, priority: usize, bound: u32, hold: u32, size: u32) -> Text

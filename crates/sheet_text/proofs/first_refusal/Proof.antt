@@ -1,14 +1,10 @@
 use Rattle.sheet_text.proofs.Whole.{first-there, second-there}
 use Rattle.sheet_text.proofs.first_refusal.Statement.{statement}
 use Rattle.sheet_text.proofs.first_refusal.Tie as tie
-use Rattle.sheet_text.proofs.first_refusal.Reads as reads
-use Rattle.sheet_text.proofs.first_refusal.Lts as lts
 
--- src/lib.rt:25:1
 returns : tie.Need-returns
 returns c = first-there (c .before .args .file) (c .before .args .bounds) (c .if1 .taken)
 
--- src/lib.rt:25:1
 returns-2 : tie.Need-returns-2
 returns-2 c = second-there (c .before .args .file) (c .before .args .bounds) (c .if1 .left)
 

@@ -2,10 +2,7 @@ use mathlib.Core.Path.{refl}
 use Rattle.sheet_text.specs.Fixed.{textOf}
 use Rattle.sheet_text.proofs.lines.blank.Statement.{statement}
 use Rattle.sheet_text.proofs.lines.blank.Tie as tie
-use Rattle.sheet_text.proofs.lines.blank.Reads as reads
-use Rattle.sheet_text.proofs.lines.blank.Lts as lts
 
--- src/lines.rt:12:1
 returns : tie.Need-returns
 unfolding textOf
 returns c = refl

@@ -1,6 +1,4 @@
-use mathlib.Core.Path.{_≡_, ap, _∙_}
 use native.Mathlib.Omega.{arith}
-use lib.ListN.{length}
 use Rattle.model.specs.Sheet.{text}
 use Rattle.sheet_text.proofs.Shape.{word, sized}
 use Rattle.sheet_text.proofs.Appended.{then-put, same-put}
@@ -8,67 +6,48 @@ use Rattle.sheet_text.proofs.Columns.{length-column, column-digit, colu
 use borrow.Author.Needs.{needs}
 use Rattle.sheet_text.proofs.lines.put_line.Statement.{statement}
 use Rattle.sheet_text.proofs.lines.put_line.Tie as tie
-use Rattle.sheet_text.proofs.lines.put_line.Reads as reads
-use Rattle.sheet_text.proofs.lines.put_line.Lts as lts
-use Rattle.sheet_text.proofs.lines.put_column.Reads as put-column-reads
-use Rattle.sheet_text.proofs.lines.put_fill.Reads as put-fill-reads
-use Rattle.sheet_text.proofs.lines.spare.Reads as spare-reads
-use Rattle.sheet_text.proofs.numerals.put.Reads as put-reads
-use Rattle.sheet_text.proofs.numerals.put_signed.Reads as put-signed-reads
 
--- src/lines.rt:51:9
 put-column-requires : tie.Need-put-column-requires
 put-column-requires c κs = omega (arith, length-column (c .args .priority), column-digit (c .args .priority) (c .pre .0))
 
--- src/lines.rt:52:9
 put-column-requires-2 : tie.Need-put-column-requires-2
 put-column-requires-2 c κs = omega (arith, column-digit (c .before .args .priority) (c .before .pre .0), ten-digits (c .before .args .bound) (word (c .before .fits .bound)))
 
--- src/lines.rt:53:9
 put-column-requires-3 : tie.Need-put-column-requires-3
 put-column-requires-3 c κs = omega (arith, column-digit (c .before .before .args .priority) (c .before .before .pre .0), column-few (c .before .before .args .bound) (word (c .before .before .fits .bound)), ten-digits (c .before .before .args .hold) (word (c .before .before .fits .hold)))
 
--- src/lines.rt:54:9
 put-column-requires-4 : tie.Need-put-column-requires-4
 put-column-requires-4 c κs = omega (arith, column-digit (c .before .before .before .args .priority) (c .before .before .before .pre .0), column-few (c .before .before .before .args .bound) (word (c .before .before .before .fits .bound)), column-few (c .before .before .before .args .hold) (word (c .before .before .before .fits .hold)), ten-digits (c .before .before .before .args .size) (word (c .before .before .before .fits .size)))
 
--- src/lines.rt:55:41
 spare-requires : tie.Need-spare-requires
 spare-requires c κs = search needs
 
--- src/lines.rt:55:9
 put-signed-requires : tie.Need-put-signed-requires
 put-signed-requires c κs =
     let spare = spare-there (c .before .before .before .before .before .args .size) (c .before .before .before .before .before .args .bound) (c .spare .result) (word (c .before .before .before .before .before .fits .size)) (word (c .before .before .before .before .before .fits .bound)) (c .spare .ensures) in
     (spare .few, omega (arith, column-digit (c .before .before .before .before .before .args .priority) (c .before .before .before .before .before .pre .0), column-few (c .before .before .before .before .before .args .bound) (word (c .before .before .before .before .before .fits .bound)), column-few (c .before .before .before .before .before .args .hold) (word (c .before .before .before .before .before .fits .hold)), column-few (c .before .before .before .before .before .args .size) (word (c .before .before .before .before .before .fits .size))))
 
--- src/lines.rt:56:34
 slice-aggregate-put : tie.Need-slice-aggregate-put
 slice-aggregate-put c = search needs
 
--- src/lines.rt:56:9
 put-requires : tie.Need-put-requires
 put-requires c κs =
     let spare = spare-there (c .before .before .before .before .before .before .before .args .size) (c .before .before .before .before .before .before .before .args .bound) (c .before .before .spare .result) (word (c .before .before .before .before .before .before .before .fits .size)) (word (c .before .before .before .before .before .before .before .fits .bound)) (c .before .before .spare .ensures) in
     omega (arith, column-digit (c .before .before .before .before .before .before .before .args .priority) (c .before .before .before .before .before .before .before .pre .0), column-few (c .before .before .before .before .before .before .before .args .bound) (word (c .before .before .before .before .before .before .before .fits .bound)), column-few (c .before .before .before .before .before .before .before .args .hold) (word (c .before .before .before .before .before .before .before .fits .hold)), column-few (c .before .before .before .before .before .before .before .args .size) (word (c .before .before .before .before .before .before .before .fits .size)))
 
--- src/lines.rt:57:9
 put-fill-requires : tie.Need-put-fill-requires
 put-fill-requires c κs =
     let spare = spare-there (c .before .before .before .before .before .before .before .before .args .size) (c .before .before .before .before .before .before .before .before .args .bound) (c .before .before .before .spare .result) (word (c .before .before .before .before .before .before .before .before .fits .size)) (word (c .before .before .before .before .before .before .before .before .fits .bound)) (c .before .before .before .spare .ensures) in
     omega (arith, column-digit (c .before .before .before .before .before .before .before .before .args .priority) (c .before .before .before .before .before .before .before .before .pre .0), column-few (c .before .before .before .before .before .before .before .before .args .bound) (word (c .before .before .before .before .before .before .before .before .fits .bound)), column-few (c .before .before .before .before .before .before .before .before .args .hold) (word (c .before .before .before .before .before .before .before .before .fits .hold)), column-few (c .before .before .before .before .before .before .before .before .args .size) (word (c .before .before .before .before .before .before .before .before .fits .size)))
 
--- src/lines.rt:58:24
 slice-aggregate-put-2 : tie.Need-slice-aggregate-put-2
 slice-aggregate-put-2 c = search needs
 
--- src/lines.rt:58:5
 put-requires-2 : tie.Need-put-requires-2
 put-requires-2 c κs =
     let spare = spare-there (c .before .before .before .before .before .before .before .before .before .before .args .size) (c .before .before .before .before .before .before .before .before .before .before .args .bound) (c .before .before .before .before .before .spare .result) (word (c .before .before .before .before .before .before .before .before .before .before .fits .size)) (word (c .before .before .before .before .before .before .before .before .before .before .fits .bound)) (c .before .before .before .before .before .spare .ensures) in
     omega (arith, column-digit (c .before .before .before .before .before .before .before .before .before .before .args .priority) (c .before .before .before .before .before .before .before .before .before .before .pre .0), column-few (c .before .before .before .before .before .before .before .before .before .before .args .bound) (word (c .before .before .before .before .before .before .before .before .before .before .fits .bound)), column-few (c .before .before .before .before .before .before .before .before .before .before .args .hold) (word (c .before .before .before .before .before .before .before .before .before .before .fits .hold)), column-few (c .before .before .before .before .before .before .before .before .before .before .args .size) (word (c .before .before .before .before .before .before .before .before .before .before .fits .size)), length-fill (c .before .before .before .before .before .before .before .before .before .before .args .bound) (c .before .before .before .before .before .before .before .before .before .before .args .size) (word (c .before .before .before .before .before .before .before .before .before .before .fits .bound)) (word (c .before .before .before .before .before .before .before .before .before .before .fits .size)))
 
--- src/lines.rt:47:1
 returns : tie.Need-returns
 unfolding text
 returns c =

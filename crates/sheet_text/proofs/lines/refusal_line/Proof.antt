@@ -1,5 +1,4 @@
 use mathlib.Core.List.{[]}
-use mathlib.Core.Path.{_≡_}
 use native.Mathlib.Omega.{arith}
 use Rattle.model.specs.Sheet.{text, numeral}
 use Rattle.sheet_text.proofs.Appended.{text-len, put-text}
@@ -7,37 +6,25 @@ use Rattle.sheet_text.proofs.Columns.{ten-digits}
 use borrow.Author.Needs.{needs}
 use Rattle.sheet_text.proofs.lines.refusal_line.Statement.{statement}
 use Rattle.sheet_text.proofs.lines.refusal_line.Tie as tie
-use Rattle.sheet_text.proofs.lines.refusal_line.Reads as reads
-use Rattle.sheet_text.proofs.lines.refusal_line.Lts as lts
-use Rattle.sheet_text.proofs.lines.blank.Reads as blank-reads
-use Rattle.sheet_text.proofs.numerals.put.Reads as put-reads
-use Rattle.sheet_text.proofs.numerals.put_numeral.Reads as put-numeral-reads
 
--- src/lines.rt:78:29
 blank-requires : tie.Need-blank-requires
 blank-requires c κs = search needs
 
--- src/lines.rt:78:38
 slice-aggregate-put : tie.Need-slice-aggregate-put
 slice-aggregate-put c = search needs
 
--- src/lines.rt:78:9
 put-requires : tie.Need-put-requires
 put-requires c κs = omega (arith, text-len (c .before .blank .result) [] (c .before .blank .ensures))
 
--- src/lines.rt:79:9
 put-numeral-requires : tie.Need-put-numeral-requires
 put-numeral-requires c κs = omega (arith, text-len (c .before .before .blank .result) [] (c .before .before .blank .ensures), ten-digits (c .before .before .before .args .number) (omega arith))
 
--- src/lines.rt:80:24
 slice-aggregate-put-2 : tie.Need-slice-aggregate-put-2
 slice-aggregate-put-2 c = search needs
 
--- src/lines.rt:80:5
 put-requires-2 : tie.Need-put-requires-2
 put-requires-2 c κs = omega (arith, text-len (c .before .before .before .before .blank .result) [] (c .before .before .before .before .blank .ensures), ten-digits (c .before .before .before .before .before .args .number) (omega arith))
 
--- src/lines.rt:75:1
 returns : tie.Need-returns
 unfolding text
 returns c =

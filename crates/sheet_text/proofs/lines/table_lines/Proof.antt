@@ -8,11 +8,6 @@ use Rattle.sheet_text.proofs.Appended.{text-len}
 use Rattle.sheet_text.proofs.Columns.{none-there, one-there, all-there}
 use Rattle.sheet_text.proofs.lines.table_lines.Statement.{statement}
 use Rattle.sheet_text.proofs.lines.table_lines.Tie as tie
-use Rattle.sheet_text.proofs.lines.table_lines.Reads as reads
-use Rattle.sheet_text.proofs.lines.table_lines.Lts as lts
-use Rattle.sheet_text.proofs.lines.blank.Reads as blank-reads
-use Rattle.sheet_text.proofs.lines.put_line.Reads as put-line-reads
-use Rattle.sheet_text.proofs.numerals.put.Reads as put-reads
 
 abbrev Inv-loop : tie.InvT-loop
 Inv-loop bounds holds sizes out₀ p₀ out p = (p ≤ 8) × (out .len ≤ 36 + 61 * p) × (out ≡ textOf (header ++ linesTo bounds holds sizes p))
@@ -20,64 +15,49 @@ Inv-loop bounds holds sizes out₀ p₀ out p = (p ≤ 8) × (out .len ≤ 36 + 
 abbrev μ-loop : tie.MeasureT-loop
 μ-loop bounds holds sizes out₀ p₀ out p = 8 - p
 
--- src/lines.rt:65:33
 blank-requires : tie.Need-blank-requires Inv-loop μ-loop
 blank-requires c κs = tt
 
--- src/lines.rt:65:42
 slice-aggregate-put : tie.Need-slice-aggregate-put Inv-loop μ-loop
 slice-aggregate-put c = omega arith
 
--- src/lines.rt:65:9
 put-requires : tie.Need-put-requires Inv-loop μ-loop
 put-requires c κs = omega (arith, text-len (c .before .blank .result) [] (c .before .blank .ensures))
 
--- src/lines.rt:67:5
 loop-holds : tie.Need-loop-holds Inv-loop μ-loop
 unfolding text header
 loop-holds c = (omega arith, omega (arith, text-len (c .before .before .blank .result) [] (c .before .before .blank .ensures)), none-there (c .before .before .before .args .t1) (c .before .before .before .args .t2) (c .before .before .before .args .t3) (c .before .before .blank .result) (c .put .result) (c .before .before .blank .ensures) (c .put .ensures))
 
--- src/lines.rt:68:37
 mul-put-line : tie.Need-mul-put-line Inv-loop μ-loop
 mul-put-line c = omega arith
 
--- src/lines.rt:68:37
 array-read-put-line : tie.Need-array-read-put-line Inv-loop μ-loop
 array-read-put-line c = omega arith
 
--- src/lines.rt:68:48
 mul-put-line-2 : tie.Need-mul-put-line-2 Inv-loop μ-loop
 mul-put-line-2 c = omega arith
 
--- src/lines.rt:68:48
 array-read-put-line-2 : tie.Need-array-read-put-line-2 Inv-loop μ-loop
 array-read-put-line-2 c = omega arith
 
--- src/lines.rt:68:58
 mul-put-line-3 : tie.Need-mul-put-line-3 Inv-loop μ-loop
 mul-put-line-3 c = omega arith
 
--- src/lines.rt:68:58
 array-read-put-line-3 : tie.Need-array-read-put-line-3 Inv-loop μ-loop
 array-read-put-line-3 c = omega arith
 
--- src/lines.rt:68:13
 put-line-requires : tie.Need-put-line-requires Inv-loop μ-loop
 put-line-requires c κs = (omega arith, omega arith)
 
--- src/lines.rt:70:9
 add-p : tie.Need-add-p Inv-loop μ-loop
 add-p c = omega arith
 
--- src/lines.rt:67:5
 loop-less : tie.Need-loop-less Inv-loop μ-loop
 loop-less c = omega arith
 
--- src/lines.rt:67:5
 loop-again : tie.Need-loop-again Inv-loop μ-loop
 loop-again c = (omega arith, omega arith, one-there (c .before .before .before .before .before .before .args .t1) (c .before .before .before .before .before .before .args .t2) (c .before .before .before .before .before .before .args .t3) (c .before .before .loop .p) (c .before .before .loop .out) (c .put-line .result) (c .before .before .loop .inv .2) (c .put-line .ensures .0))
 
--- src/lines.rt:62:1
 returns : tie.Need-returns Inv-loop μ-loop
 returns c =
     all-there (c .before .before .before .before .before .args .t1) (c .before .before .before .before .before .args .t2) (c .before .before .before .before .before .args .t3)

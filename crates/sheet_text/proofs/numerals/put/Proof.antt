@@ -1,4 +1,4 @@
-use mathlib.Core.Path.{_≡_, refl}
+use mathlib.Core.Path.{_≡_}
 use Prim.Native.Nat.{_+_, _-_, _≤_}
 use native.Mathlib.Omega.{arith}
 use lib.ListN.{length, take, length-set}
@@ -7,8 +7,6 @@ use Rattle.sheet_text.proofs.Shape.{sized}
 use Rattle.sheet_text.proofs.Appended.{none-put, one-put, all-put}
 use Rattle.sheet_text.proofs.numerals.put.Statement.{statement}
 use Rattle.sheet_text.proofs.numerals.put.Tie as tie
-use Rattle.sheet_text.proofs.numerals.put.Reads as reads
-use Rattle.sheet_text.proofs.numerals.put.Lts as lts
 
 abbrev Inv-loop : tie.InvT-loop
 Inv-loop part bytes₀ at i₀ bytes i =
@@ -17,33 +15,26 @@ Inv-loop part bytes₀ at i₀ bytes i =
 abbrev μ-loop : tie.MeasureT-loop
 μ-loop part bytes₀ at i₀ bytes i = length part - i
 
--- src/numerals.rt:16:5
 loop-holds : tie.Need-loop-holds Inv-loop μ-loop
 loop-holds c =
     let n : length (c .before .args .out .bytes) ≡ 524 = sized (c .before .args .out) _ (c .before .good .0) in
     (omega arith, n, n, c .before .pre, none-put (c .before .args .out .len) (c .before .args .part .now) (c .before .args .out .bytes))
 
--- src/numerals.rt:17:25
 shared-slice-read-bytes : tie.Need-shared-slice-read-bytes Inv-loop μ-loop
 shared-slice-read-bytes c = omega arith
 
--- src/numerals.rt:17:15
 add-bytes : tie.Need-add-bytes Inv-loop μ-loop
 add-bytes c = omega arith
 
--- src/numerals.rt:17:9
 array-write-bytes : tie.Need-array-write-bytes Inv-loop μ-loop
 array-write-bytes c = omega arith
 
--- src/numerals.rt:18:9
 add-i : tie.Need-add-i Inv-loop μ-loop
 add-i c = omega arith
 
--- src/numerals.rt:16:5
 loop-less : tie.Need-loop-less Inv-loop μ-loop
 loop-less c = omega arith
 
--- src/numerals.rt:16:5
 loop-again : tie.Need-loop-again Inv-loop μ-loop
 loop-again c =
     let at = c .before .before .before .before .args .out .len in
@@ -52,11 +43,9 @@ loop-again c =
     let inv = c .before .before .loop .inv in
     (omega arith, simp length-set (omega arith), inv .2, inv .3, one-put at (c .before .before .loop .i) part out (c .before .before .loop .bytes) (omega arith) (omega arith) (inv .4))
 
--- src/numerals.rt:22:14
 add-t13 : tie.Need-add-t13 Inv-loop μ-loop
 add-t13 c = omega arith
 
--- src/numerals.rt:9:1
 returns : tie.Need-returns Inv-loop μ-loop
 returns c = all-put (c .before .before .before .args .out) (c .before .loop .i) (c .before .before .before .args .part .now) (c .before .loop .bytes) (omega arith) (omega arith) (omega arith) (c .before .loop .inv .4)
 

@@ -1,17 +1,13 @@
-use borrow.Author.Needs.{needs}
-use mathlib.Core.Path.{_≡_, refl, sym, ap, _∙_}
+use mathlib.Core.Path.{_≡_, refl, sym}
 use mathlib.Core.List.{_++_, append-nil}
-use Prim.Native.Nat.{_+_, _-_, _*_, _/_, _%_, _≤_}
+use Prim.Native.Nat.{_+_, _-_, _≤_}
 use native.Mathlib.Omega.{arith}
-use lib.ListN.{length, take, drop, length-set, length-drop}
+use lib.ListN.{length, drop, length-set}
 use Rattle.model.specs.Sheet.{numeral}
 use Rattle.sheet_text.proofs.Appended.{same-put}
 use Rattle.sheet_text.proofs.Digits.{length-most, length-least, length-last, more-stored, all-stored}
 use Rattle.sheet_text.proofs.numerals.put_numeral.Statement.{statement}
 use Rattle.sheet_text.proofs.numerals.put_numeral.Tie as tie
-use Rattle.sheet_text.proofs.numerals.put_numeral.Reads as reads
-use Rattle.sheet_text.proofs.numerals.put_numeral.Lts as lts
-use Rattle.sheet_text.proofs.numerals.put.Reads as put-reads
 
 abbrev Inv-loop : tie.InvT-loop
 Inv-loop out n digits₀ first₀ higher₀ digits first higher = (first ≤ 20) × (length digits ≡ 20) × (length (numeral higher) ≤ first) × (numeral n ≡ numeral higher ++ drop first digits)
@@ -19,66 +15,51 @@ Inv-loop out n digits₀ first₀ higher₀ digits first higher = (first ≤ 20)
 abbrev μ-loop : tie.MeasureT-loop
 μ-loop out n digits₀ first₀ higher₀ digits first higher = first
 
--- src/numerals.rt:34:5
 loop-holds : tie.Need-loop-holds Inv-loop μ-loop
 loop-holds c = (omega arith, refl, length-most 19 (c .args .n) (omega arith), sym (append-nil (numeral (c .args .n))))
 
--- src/numerals.rt:35:9
 sub-first : tie.Need-sub-first Inv-loop μ-loop
 sub-first c = omega (arith, length-least (c .before .loop .higher))
 
--- src/numerals.rt:36:30
 cast-digits : tie.Need-cast-digits Inv-loop μ-loop
 cast-digits c = omega arith
 
--- src/numerals.rt:36:25
 add-digits : tie.Need-add-digits Inv-loop μ-loop
 add-digits c = omega arith
 
--- src/numerals.rt:36:9
 array-write-digits : tie.Need-array-write-digits Inv-loop μ-loop
 array-write-digits c = omega (arith, length-least (c .before .loop .higher))
 
--- src/numerals.rt:34:5
 loop-less : tie.Need-loop-less Inv-loop μ-loop
 loop-less c = omega (arith, length-least (c .before .loop .higher))
 
--- src/numerals.rt:34:5
 loop-again : tie.Need-loop-again Inv-loop μ-loop
 loop-again c =
     let inv = c .before .loop .inv in
     let more = length-last (c .before .loop .higher) (omega arith) in
     (omega arith, simp length-set (omega arith), omega arith, more-stored (c .before .before .args .n) 20 (c .before .loop .digits) (c .before .loop .first) (c .before .loop .higher) (inv .3) (omega arith) (omega arith) (omega arith))
 
--- src/numerals.rt:39:5
 sub-first-2 : tie.Need-sub-first-2 Inv-loop μ-loop
 sub-first-2 c = omega (arith, length-least (c .before .loop .higher))
 
--- src/numerals.rt:40:26
 cast-digits-2 : tie.Need-cast-digits-2 Inv-loop μ-loop
 cast-digits-2 c = omega arith
 
--- src/numerals.rt:40:21
 add-digits-2 : tie.Need-add-digits-2 Inv-loop μ-loop
 add-digits-2 c = omega arith
 
--- src/numerals.rt:40:5
 array-write-digits-2 : tie.Need-array-write-digits-2 Inv-loop μ-loop
 array-write-digits-2 c = omega (arith, length-least (c .before .loop .higher))
 
--- src/numerals.rt:41:15
 sub-put : tie.Need-sub-put Inv-loop μ-loop
 sub-put c = omega arith
 
--- src/numerals.rt:41:15
 part-put-start : tie.Need-part-put-start Inv-loop μ-loop
 part-put-start c = omega arith
 
--- src/numerals.rt:41:15
 part-put-end : tie.Need-part-put-end Inv-loop μ-loop
 part-put-end c = simp length-set (omega arith)
 
--- src/numerals.rt:41:5
 put-requires : tie.Need-put-requires Inv-loop μ-loop
 put-requires c κs =
     let some = length-least (c .before .before .before .loop .higher) in
@@ -87,7 +68,6 @@ put-requires c κs =
     (c .before .before .before .loop .higher) (c .before .before .before .loop .inv .3) (omega arith) (omega arith) (omega arith) (omega arith) in
     rw whole (c .before .before .before .before .pre)
 
--- src/numerals.rt:27:1
 returns : tie.Need-returns Inv-loop μ-loop
 returns c =
     let some = length-least (c .before .before .before .before .loop .higher) in

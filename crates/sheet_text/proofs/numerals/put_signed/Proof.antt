@@ -1,25 +1,18 @@
-use mathlib.Core.Path.{_≡_, ap}
-use mathlib.Core.List.{_++_}
+use mathlib.Core.Path.{ap}
 use native.Mathlib.Omega.{arith}
 use lib.IntN.{natAbs}
-use lib.ListN.{length, length-append}
-use Rattle.model.specs.Sheet.{text, numeral}
+use lib.ListN.{length}
+use Rattle.model.specs.Sheet.{text}
 use Rattle.sheet_text.proofs.Shape.{sized}
 use Rattle.sheet_text.proofs.Appended.{then-put, same-put}
 use Rattle.sheet_text.proofs.Signed.{castable, opposite-fits, opposite-read, opposite-printed, itself-read, itself-printed}
 use borrow.Author.Needs.{needs}
 use Rattle.sheet_text.proofs.numerals.put_signed.Statement.{statement}
 use Rattle.sheet_text.proofs.numerals.put_signed.Tie as tie
-use Rattle.sheet_text.proofs.numerals.put_signed.Reads as reads
-use Rattle.sheet_text.proofs.numerals.put_signed.Lts as lts
-use Rattle.sheet_text.proofs.numerals.put.Reads as put-reads
-use Rattle.sheet_text.proofs.numerals.put_numeral.Reads as put-numeral-reads
 
--- src/numerals.rt:50:31
 slice-aggregate-put : tie.Need-slice-aggregate-put
 slice-aggregate-put c = search needs
 
--- src/numerals.rt:50:13
 put-requires : tie.Need-put-requires
 unfolding text
 put-requires c κs =
@@ -27,15 +20,12 @@ put-requires c κs =
     let long = ap length (opposite-printed n (c .before .before .fits .n) (c .before .before .pre .0) (c .before .if1 .taken)) in
     omega arith
 
--- src/numerals.rt:51:37
 sub-put-numeral : tie.Need-sub-put-numeral
 sub-put-numeral c = opposite-fits (c .before .before .before .args .n) (c .before .before .before .fits .n) (c .before .before .before .pre .0) (c .before .before .if1 .taken)
 
--- src/numerals.rt:51:36
 cast-put-numeral : tie.Need-cast-put-numeral
 cast-put-numeral c = castable (natAbs (c .before .before .before .args .n)) _ (opposite-read (c .before .before .before .args .n) (c .before .before .before .fits .n) (c .before .before .before .pre .0) (c .before .before .if1 .taken)) (omega arith)
 
--- src/numerals.rt:51:9
 put-numeral-requires : tie.Need-put-numeral-requires
 unfolding text
 put-numeral-requires c κs =
@@ -43,7 +33,6 @@ put-numeral-requires c κs =
     let long = ap length (opposite-printed n (c .before .before .before .fits .n) (c .before .before .before .pre .0) (c .before .before .if1 .taken)) in
     omega arith
 
--- src/numerals.rt:51:9
 returns : tie.Need-returns
 unfolding text
 returns c =
@@ -51,17 +40,14 @@ returns c =
     same-put (then-put (sized (c .before .before .before .before .args .out) _ (c .before .before .before .before .good .0)) (c .before .put .ensures) (c .put-numeral .ensures))
     (opposite-printed n (c .before .before .before .before .fits .n) (c .before .before .before .before .pre .0) (c .before .before .before .if1 .taken))
 
--- src/numerals.rt:53:22
 cast-put-numeral-2 : tie.Need-cast-put-numeral-2
 cast-put-numeral-2 c = castable (natAbs (c .before .args .n)) _ (itself-read (c .before .args .n) (c .before .fits .n) (c .before .pre .0) (c .if1 .left)) (omega arith)
 
--- src/numerals.rt:53:5
 put-numeral-requires-2 : tie.Need-put-numeral-requires-2
 put-numeral-requires-2 c κs =
     let long = ap length (itself-printed (c .before .args .n) (c .before .fits .n) (c .before .pre .0) (c .if1 .left)) in
     omega arith
 
--- src/numerals.rt:45:1
 returns-2 : tie.Need-returns-2
 returns-2 c = same-put (c .put-numeral2 .ensures) (itself-printed (c .before .before .args .n) (c .before .before .fits .n) (c .before .before .pre .0) (c .before .if1 .left))
 
