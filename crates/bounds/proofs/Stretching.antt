@@ -12,7 +12,7 @@ use Rattle.table.proofs.Shape.{count-shown}
 use Rattle.bounds.specs.declared.arrivals.Loads.{Loads}
 use Rattle.bounds.specs.declared.stretch.Stretch.{Stretch}
 use Rattle.bounds.specs.Fit.{Fit}
-use Rattle.bounds.specs.Loads.{between, less, Loaded, flow}
+use Rattle.bounds.specs.Loads.{between, less, unkept, Loaded, flow}
 use Rattle.bounds.specs.Peaks.{Bends}
 use Rattle.bounds.specs.Stretches.{Steady, Given, Sized, Stretched, backlogBy, backlogIn}
 use Rattle.bounds.proofs.Loading.{flow-is, tops-few}
@@ -21,7 +21,7 @@ use Rattle.bounds.proofs.Steadiness.{steady-less, load-stays, flow-bend
 use Rattle.bounds.proofs.Views.{own-within-up, own-arrivals, up-arrivals}
 
 module _ (t : TableRecord) (f : Fit t) (p b m last w : ℕ) (g : Given (viewOf t) p b m last) (h : w ≤ last)
-    (own up : Loads) (lo : Loaded (less 0) (between p p) (linksOf t) w own) (lu : Loaded (less 0) (between 0 p) (linksOf t) w up)
+    (own up : Loads) (lo : Loaded (less unkept) (between p p) (linksOf t) w own) (lu : Loaded (less 0) (between 0 p) (linksOf t) w up)
     (e u : ℕ) (we : w ≤ e) (st : Steady (between 0 p) (linksOf t) (t .count) w e) (q : u ≡ min e last) (lines : ℕ) (ql : lines ≡ t .lines) where
   stretch : Stretch
   stretch = record { own = own; up = up; lines = lines; blocking = b; longest = m; start = w; last = u }
@@ -32,8 +32,8 @@ module _ (t : TableRecord) (f : Fit t) (p b m last w : ℕ) (g : Given (viewOf t
   own-is : (k : ℕ) → w ≤ k → k ≤ u → flow own lines k ≡ ownArrivals (viewOf t) p k
   own-is k x y =
       rw ql
-      (flow-is (less 0) (between p p) (linksOf t) k own (t .lines) (f .lines)
-      (load-stays (less 0) (between 0 p) (between p p) (own-within-up p) (linksOf t) w u steady k x y own lo)
+      (flow-is (less unkept) (between p p) (linksOf t) k own (t .lines) (f .lines)
+      (load-stays (less unkept) (between 0 p) (between p p) (own-within-up p) (linksOf t) w u steady k x y own lo)
       ∙ own-arrivals t p k)
 
   up-is : (k : ℕ) → w ≤ k → k ≤ u → flow up lines k ≡ upArrivals (viewOf t) p k
@@ -68,7 +68,7 @@ module _ (t : TableRecord) (f : Fit t) (p b m last w : ℕ) (g : Given (viewOf t
     lines-most = omega (arith, f .lines);
     some-link = g .some-link;
     longest-most = g .longest-most;
-    own-most = tops-few t f (between p p) 0 w most own lo;
+    own-most = tops-few t f (between p p) unkept w most own lo;
     up-most = tops-few t f (between 0 p) 0 w most up lu;
   }
 

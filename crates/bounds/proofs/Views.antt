@@ -14,12 +14,12 @@ use Rattle.table.specs.declared.Table.{Table as TableRecord}
 use Rattle.table.specs.View.{linksOf, viewOf}
 use Rattle.table.proofs.Shape.{count-shown}
 use Rattle.bounds.specs.Fit.{Fit}
-use Rattle.bounds.specs.Loads.{within, between, less}
+use Rattle.bounds.specs.Loads.{within, between, less, unkept}
 use Rattle.bounds.proofs.Sums.{greatest-same}
 use Rattle.bounds.proofs.Fitting.{view-link}
 
--- ---- weights: what a frame occupies is its length less this
-pub occupied-is : (n : ℕ) → less 0 n ≡ occupied n
+-- ---- weights
+occupied-is : (n : ℕ) → less unkept n ≡ occupied n
 unfolding occupied
 occupied-is n = omega arith
 
@@ -69,10 +69,10 @@ own-within-up p v e = within-up p (v .priority) ∙ go (ℕ-discrete (v .priorit
 
 -- ---- the paper's amounts
 module _ (t : TableRecord) (p : ℕ) where
-  pub own-arrivals : (w : ℕ) → arrivalCurve (less 0) (between p p) (t .lines) (linksOf t) w ≡ ownArrivals (viewOf t) p w
+  pub own-arrivals : (w : ℕ) → arrivalCurve (less unkept) (between p p) (t .lines) (linksOf t) w ≡ ownArrivals (viewOf t) p w
   unfolding ownArrivals viewOf
   own-arrivals w =
-      ap (λ s. arrivalCurve (less 0) s (t .lines) (linksOf t) w) (own-set p)
+      ap (λ s. arrivalCurve (less unkept) s (t .lines) (linksOf t) w) (own-set p)
       ∙ ap (λ x. arrivalCurve x (ofPriority p) (t .lines) (linksOf t) w) (fun-ext occupied-is)
 
   pub up-arrivals : (w : ℕ) → arrivalCurve (less 0) (between 0 p) (t .lines) (linksOf t) w ≡ upArrivals (viewOf t) p w

@@ -24,6 +24,10 @@ between low high v = within low high (v .priority)
 abbrev pub less : ℕ → ℕ → ℕ
 less cut n = n - cut
 
+-- the bytes of a frame that its buffer does not keep: what a frame occupies is its length less these
+abbrev pub unkept : ℕ
+unkept = 0
+
 -- a window with the number of frames of each link of the table
 pub record Counted (t : TableRecord) (window : Window) : Type 0 where
   pub ticks : window .ticks ≤ 65_536
