@@ -1,3 +1,8 @@
 pub mod View
 pub mod Contracts
+pub mod Places
+pub mod Fitness
+pub mod Refusals
+pub mod Judgement
+pub mod Resting
 pub mod Calls

@@ -1,8 +1,17 @@
 // An output port: fitness, the fresh port, frame and wait reports.
+mod fitness;
+mod lookup;
+mod refusals;
+mod reports;
+mod resting;
+
 use policing::Account;
 use scheduler::Queue;
 use scheduler::Sender;
 use table::Table;
+ghost use mathlib.Core.Path.{_≡_};
+ghost use Rattle.model.specs.Report.{frame as frameReport, wait as waitReport};
+ghost use Rattle.port.specs.Contracts.{freshOf, Answered};
 
 pub struct Port {
     pub table: Table,
@@ -33,4 +42,28 @@ pub struct Answer {
 pub struct Fresh {
     pub refused: u32,
     pub port: Port,
+}
+
+impl Port {
+    // The fresh port of a table; or the refusal, 3 to 6.
+    pub fn fresh(table: Table) -> Fresh
+        ensures { λ r. ⌜ r ≡ freshOf table ⌝ }
+    {
+        resting::fresh(table)
+    }
+
+    // A frame of that number and length has wholly arrived on the line at the tick.
+    // Departures go to the list, three numbers each: number, length, tick freed.
+    pub fn frame(self, tick: u64, line: u64, number: u64, length: u64, list: &mut [u64]) -> Answer
+        ensures { λ a. ⌜ Answered self (frameReport tick line number «length») (now (list .entry)) (now (list .exit)) a ⌝ }
+    {
+        reports::handle(self, Report::Frame(tick, line, number, length), list)
+    }
+
+    // The port at a tick at which nothing arrives.
+    pub fn wait(self, tick: u64, list: &mut [u64]) -> Answer
+        ensures { λ a. ⌜ Answered self (waitReport tick) (now (list .entry)) (now (list .exit)) a ⌝ }
+    {
+        reports::handle(self, Report::Wait(tick), list)
+    }
 }

@@ -46,7 +46,7 @@ fn wide(x: u16) -> u64
 }
 
 // What a frame takes of its buffer.
-fn occupancy(length: u16) -> u64
+pub fn occupancy(length: u16) -> u64
     ensures { λ r. ⌜ (r ≡ occupied length) × (r ≤ 65535) ⌝ }
 {
     wide(length)

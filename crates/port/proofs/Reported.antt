@@ -1,0 +1,114 @@
+-- The record that the code makes of a report that is not refused, and the port of the model.
+use mathlib.Core.Path.{_≡_, refl, sym, ap, _∙_}
+use mathlib.Core.Option.{Option, none, some}
+use mathlib.Core.List.{List, [], _∷_, _++_, map}
+use Prim.Native.Nat.{ℕ, zero, suc, _+_, _*_, _≤_, _<_, max}
+use native.Mathlib.Omega.{arith}
+use lib.ListN.{length, getD, set, drop, length-map, List·getD-map}
+use lib.Seq.{set-getD, getD-set-same, drop-set-lt}
+use Rattle.model.specs.Basics.{entries}
+use Rattle.model.specs.Units.{occupied}
+use Rattle.model.specs.Link.{VirtualLink, linkAt, placeOf}
+use Rattle.model.specs.Table.{Table, sizeOf}
+use Rattle.model.specs.Machine.{Frame, Sender, Scheduler, Advance, at, advance, queueOf, queuedLast, bytes, held}
+use Rattle.model.specs.Report.{Account, Port, blankAccount, accountAt, markOf, Report, wait, frame, tickOf, reportRefusal, Judged, judged, withAccount, withLineTick, judgeReport, answered, listed, acceptedOr, step, Stepped}
+use Rattle.model.proofs.Queues.{bytes-snoc}
+use Rattle.model.proofs.QueueSteps.{advance-clock}
+use Rattle.model.proofs.Stepping.{movedTo, Placed, placed}
+use Rattle.table.specs.View.{linkOf, blankFields, linksOf, viewOf}
+use Rattle.table.proofs.Shape.{link-shown}
+use Rattle.policing.specs.declared.Account.{Account as AccountRecord}
+use Rattle.policing.specs.Check.{accountOf, accountRecord}
+use Rattle.scheduler.specs.declared.Frame.{Frame as FrameRecord}
+use Rattle.scheduler.specs.declared.Queue.{Queue}
+use Rattle.scheduler.specs.declared.Moved.{Moved}
+use Rattle.scheduler.specs.View.{frameOf, blankQueue, framesOf, queuesOf, marksOf, senderOf}
+use Rattle.scheduler.specs.Contracts.{advanceOf, Advanced}
+use Rattle.scheduler.proofs.Shown.{queue-shown, queues-set, length-shown}
+use Rattle.port.specs.declared.Port.{Port as PortRecord}
+use Rattle.port.specs.declared.reports.Judgement.{Judgement}
+use Rattle.port.specs.declared.reports.Settled.{Settled}
+use Rattle.port.specs.View.{tableOf, portOf}
+use Rattle.port.specs.Judgement.{judgementOf, Stored, Kept, Settles}
+use Rattle.port.specs.Contracts.{stepOf, Answered}
+use Rattle.port.proofs.Stores.{entries-set, map-set, getD-entries}
+use Rattle.port.proofs.Judged.{storedBy, judgementAt, judged-at, judged-nowhere}
+
+-- ---- one queue of the eight after a frame
+module _ (qs : List Queue) (k : ℕ) (eight : length qs ≡ 8) (below : k < 8) (f : FrameRecord) where
+  abbrev q : Queue
+  q = getD qs k blankQueue
+
+  abbrev with-queues : ℕ → Sender → List ℕ → List Account → List Queue → Port
+  with-queues time z lines accounts l =
+      record { scheduler = at time (queuesOf l) z; marks = marksOf l; lineTicks = lines; accounts = accounts }
+
+  queued : (r : Queue) → framesOf r ≡ framesOf q ++ (frameOf f ∷ []) → queuesOf (set qs k r) ≡ queuedLast (queuesOf qs) k (frameOf f)
+  queued r e = rw (queues-set, e, queue-shown)
+
+  mark-shown : getD (marksOf qs) k 0 ≡ q .mark
+  mark-shown = List·getD-map (λ (x : Queue). x .mark) qs k blankQueue
+
+  holds-more : held (queueOf (queuedLast (queuesOf qs) k (frameOf f)) k) ≡ held (framesOf q) + occupied (f .length)
+  holds-more =
+      ap (λ (l : List Frame). held l) (getD-set-same (queuesOf qs) k (queueOf (queuesOf qs) k ++ (frameOf f ∷ [])) [] (omega (arith, length-shown qs)))
+      ∙ bytes-snoc occupied (queueOf (queuesOf qs) k) (frameOf f) ∙ rw queue-shown
+
+  marked : (r : Queue) → r .mark ≡ max (q .mark) (held (framesOf q) + occupied (f .length)) →
+      marksOf (set qs k r) ≡ set (marksOf qs) k (max (getD (marksOf qs) k 0) (held (queueOf (queuedLast (queuesOf qs) k (frameOf f)) k)))
+  marked r e = map-set (λ (x : Queue). x .mark) qs k r ∙ ap (λ (n : ℕ). set (marksOf qs) k n) (e ∙ rw (mark-shown, holds-more))
+
+  pub kept-shown : (time : ℕ) (z : Sender) (lines : List ℕ) (accounts : List Account) (n : ℕ) (r : Queue) → Kept n q f r →
+      with-queues time z lines accounts (set qs k r) ≡ storedBy n (with-queues time z lines accounts qs) k (frameOf f)
+  unfolding storedBy
+  kept-shown time z lines accounts zero r s = rw (queued r (s .frames), marked r (s .mark))
+  kept-shown time z lines accounts (suc n) r e = rw (e, set-getD qs k blankQueue)
+
+-- ---- the advance
+
+-- the record at a tick, with these parts
+abbrev pub made : PortRecord → ℕ → Moved → List Queue → List ℕ → List AccountRecord → PortRecord
+made p time m queues lines accounts = record { table = p .table; clock = time; queues = queues; sender = m .sender; «line_ticks» = lines; accounts = accounts }
+
+-- the port of the model that has advanced to a tick
+abbrev pub there : PortRecord → ℕ → Port
+there p time = movedTo (portOf p) time
+
+module _ (p : PortRecord) {time : ℕ} {before after : List ℕ} {m : Moved} (moves : Advanced (advanceOf time (p .clock) (p .queues) (p .sender)) (marksOf (p .queues)) before after m) (later : p .clock ≤ time) where
+  abbrev here : Scheduler
+  here = at (p .clock) (queuesOf (p .queues)) (senderOf (p .sender))
+
+  there-scheduler : at time (queuesOf (m .queues)) (senderOf (m .sender)) ≡ advance time here .scheduler
+  there-scheduler =
+      rw (moves .queues, moves .sender)
+      (ap (λ (c : ℕ). at c (advance time here .scheduler .queues) (advance time here .scheduler .sender)) (sym (advance-clock time here later)))
+
+  moved-parts : (lines : List ℕ) (accounts : List Account) →
+      _≡_ {A = Port} (record { scheduler = at time (queuesOf (m .queues)) (senderOf (m .sender)); marks = marksOf (m .queues); lineTicks = lines; accounts = accounts })
+      (record { scheduler = advance time here .scheduler; marks = marksOf (p .queues); lineTicks = lines; accounts = accounts })
+  moved-parts lines accounts = rw (there-scheduler, moves .marks)
+
+  pub waited : portOf (made p time m (m .queues) (p .«line_ticks») (p .accounts)) ≡ there p time
+  unfolding portOf
+  waited = moved-parts (entries 0 (p .table .lines) (p .«line_ticks»)) (entries blankAccount (p .table .count) (map accountOf (p .accounts)))
+
+  module _ (line : ℕ) (line-in : line < length (p .«line_ticks»)) where
+    pub ticked : portOf (made p time m (m .queues) (set (p .«line_ticks») line time) (p .accounts)) ≡ withLineTick (there p time) line time
+    unfolding portOf
+    ticked =
+        moved-parts (entries 0 (p .table .lines) (set (p .«line_ticks») line time)) (entries blankAccount (p .table .count) (map accountOf (p .accounts)))
+        ∙ rw (entries-set 0 (p .table .lines) (p .«line_ticks») line time line-in)
+
+    pub settled : (i k n : ℕ) (a : AccountRecord) (f : FrameRecord) (r : Queue) → i < length (p .accounts) → k < 8 → Kept n (getD (m .queues) k blankQueue) f r →
+        portOf (made p time m (set (m .queues) k r) (set (p .«line_ticks») line time) (set (p .accounts) i a)) ≡ storedBy n (withAccount (withLineTick (there p time) line time) i (accountOf a)) k (frameOf f)
+    unfolding portOf
+    settled i k n a f r i-in k-in kept =
+        kept-shown (m .queues) k (moves .eight) k-in f time (senderOf (m .sender)) (entries 0 (p .table .lines) (set (p .«line_ticks») line time))
+        (entries blankAccount (p .table .count) (map accountOf (set (p .accounts) i a))) n r kept
+        ∙ ap (λ (s : Port). storedBy n s k (frameOf f))
+        (moved-parts (entries 0 (p .table .lines) (set (p .«line_ticks») line time)) (entries blankAccount (p .table .count) (map accountOf (set (p .accounts) i a)))
+        ∙ rw (
+          entries-set 0 (p .table .lines) (p .«line_ticks») line time line-in,
+          map-set accountOf (p .accounts) i a,
+          entries-set blankAccount (p .table .count) (map accountOf (p .accounts)) i (accountOf a) (rw length-map i-in),
+        ))

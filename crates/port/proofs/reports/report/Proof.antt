@@ -1,0 +1,238 @@
+use native.Mathlib.Omega.{arith}
+use mathlib.Core.Path.{_≡_, refl, sym, ap, _∙_}
+use Prim.Native.Nat.{ℕ, _≤_, _<_}
+use lib.ListN.{length, getD}
+use Rattle.model.specs.Report.{frame}
+use Rattle.table.specs.View.{blankFields}
+use Rattle.port.specs.View.{reportOf}
+use Rattle.port.proofs.Tables.{Passing}
+use Rattle.port.proofs.Whole.{Whole, whole}
+use Rattle.port.proofs.Answers.{NotRefused, is-wait, is-frame, passed, ready, found-at, found-nowhere, line-in, length-most, place-in, priority-in, roomy, waits, arrives-nowhere, arrives-at}
+use borrow.Author.Needs.{needs}
+use Rattle.port.proofs.reports.report.Statement.{statement}
+use Rattle.port.proofs.reports.report.Tie as tie
+use Rattle.port.proofs.reports.report.Reads as reads
+use Rattle.port.proofs.reports.report.Lts as lts
+use Rattle.port.proofs.lookup.place_of.Reads as place-of-reads
+use Rattle.port.proofs.reports.arrived.Reads as arrived-reads
+use Rattle.port.proofs.reports.settle.Reads as settle-reads
+use Rattle.port.proofs.refusals.tick_of.Reads as tick-of-reads
+use Rattle.scheduler.proofs.advance.Reads as advance-reads
+
+-- the record that is handed in
+entire : (c : tie.Start) → Whole (c .args .p)
+entire c = whole (c .args .p) _ (c .good .0)
+
+-- a frame report
+module _ (c : tie.After-known-told) where
+  abbrev start : tie.Start
+  start = c .before .before .before .before .before .before .before .before .before .before .before .before .before .before
+
+  abbrev time : ℕ
+  time = c .before .before .before .before .before .before .before .before .before .before .before .before .tick-of .result
+
+  abbrev line : ℕ
+  line = c .before .r .given .0 .1 .0
+
+  abbrev number : ℕ
+  number = c .before .r .given .0 .1 .1 .0
+
+  abbrev len : ℕ
+  len = c .before .r .given .0 .1 .1 .1 .0
+
+  is-it : reportOf (start .args .r) ≡ frame time line number len
+  is-it = is-frame (c .before .r .given .1) (c .before .before .before .before .before .before .before .before .before .before .before .before .tick-of .ensures)
+
+  accepted : NotRefused (start .args .p) (frame time line number len) (length (start .args .list .now))
+  accepted = rw is-it at (start .pre)
+
+  on-line : line < 24
+  on-line = line-in (start .args .p) (entire start) time line number len (length (start .args .list .now)) accepted
+
+  passes : Passing (start .args .p .table)
+  passes = passed (start .args .p) (entire start) (frame time line number len) (length (start .args .list .now)) accepted
+
+-- a frame of a link
+module _ (c : tie.After-known-told2) where
+  abbrev framed : tie.After-known-told
+  framed = c .before .before .before .before .before .before
+
+  abbrev place : ℕ
+  place = c .before .i .given .0 .0
+
+  in-table : place < start framed .args .p .table .count
+  in-table = c .before .before .before .place-of .ensures .below place (c .before .i .given .1)
+
+  in-array : place < 256
+  in-array = omega (arith, in-table, passes framed .links-most)
+
+  in-queues : getD (start framed .args .p .table .links) place blankFields .priority < 8
+  in-queues = priority-in (start framed .args .p) (entire (start framed)) (time framed) (line framed) (number framed) (len framed) (length (start framed .args .list .now)) (accepted framed) place in-table
+
+-- src/reports.rt:178:9
+tick-of-requires : tie.Need-tick-of-requires
+tick-of-requires c κs = search needs
+
+-- src/reports.rt:181:9
+advance-requires : tie.Need-advance-requires
+advance-requires c κs = ready (c .before .before .before .before .args .p) (entire (c .before .before .before .before)) (reportOf (c .before .before .before .before .args .r)) (length (c .before .before .before .before .args .list .now)) (c .before .before .before .before .pre) (c .before .before .tick-of .ensures)
+
+-- src/reports.rt:188:29
+enum-known-r : tie.Need-enum-known-r
+enum-known-r c = search needs
+
+-- src/reports.rt:189:9
+mul-line-ticks : tie.Need-mul-line-ticks
+mul-line-ticks c = let k = on-line c in omega arith
+
+-- src/reports.rt:189:9
+array-write-line-ticks : tie.Need-array-write-line-ticks
+array-write-line-ticks c = on-line c
+
+-- src/reports.rt:191:31
+place-of-requires : tie.Need-place-of-requires
+place-of-requires c κs = let k = passes (c .before .before) in (k .some-link, k .links-most, k .rising)
+
+-- src/reports.rt:191:26
+enum-known-i : tie.Need-enum-known-i
+enum-known-i c = search needs
+
+-- src/reports.rt:192:24
+mul-link : tie.Need-mul-link
+mul-link c = let k = in-array c in omega arith
+
+-- src/reports.rt:192:24
+element-copy-out-link : tie.Need-element-copy-out-link
+element-copy-out-link c = in-array c
+
+-- src/reports.rt:193:21
+cast-k : tie.Need-cast-k
+cast-k c = search needs
+
+-- src/reports.rt:194:29
+mul-arrived : tie.Need-mul-arrived
+mul-arrived c = let k = in-array (c .before .before) in omega arith
+
+-- src/reports.rt:194:29
+element-copy-out-arrived : tie.Need-element-copy-out-arrived
+element-copy-out-arrived c = in-array (c .before .before)
+
+-- src/reports.rt:194:17
+arrived-requires : tie.Need-arrived-requires
+arrived-requires c κs = let f = c .before .before .before .before .before .before .before .before .before in length-most (start f .args .p) (entire (start f)) (time f) (line f) (number f) (len f) (length (start f .args .list .now)) (accepted f)
+
+-- src/reports.rt:195:34
+mul-settle : tie.Need-mul-settle
+mul-settle c = let k = in-array (c .before .before .before .before) in omega arith
+
+-- src/reports.rt:195:34
+array-copy-out-settle : tie.Need-array-copy-out-settle
+array-copy-out-settle c = in-array (c .before .before .before .before)
+
+-- src/reports.rt:195:47
+mul-settle-2 : tie.Need-mul-settle-2
+mul-settle-2 c = search needs
+
+-- src/reports.rt:195:47
+array-copy-out-settle-2 : tie.Need-array-copy-out-settle-2
+array-copy-out-settle-2 c = in-queues (c .before .before .before .before .before)
+
+-- src/reports.rt:195:58
+mul-settle-3 : tie.Need-mul-settle-3
+mul-settle-3 c = search needs
+
+-- src/reports.rt:195:58
+element-copy-out-settle : tie.Need-element-copy-out-settle
+element-copy-out-settle c = in-queues (c .before .before .before .before .before .before)
+
+-- src/reports.rt:195:17
+settle-requires : tie.Need-settle-requires
+settle-requires c κs = let l = c .before .before .before .before .before .before .before in let f = c .before .before .before .before .before .before .before .before .before .before .before .before .before in roomy (start f .args .p) (entire (start f)) (time f) (line f) (number f) (len f) (length (start f .args .list .now)) (accepted f) (place l) (in-table l) (c .before .before .before .before .before .before .before .before .before .before .before .before .before .before .before .before .before .before .before .before .before .before .advance .ensures) (c .before .before .before .arrived .result) (rw (c .before .before .before .arrived .ensures))
+
+-- src/reports.rt:198:13
+mul-accounts : tie.Need-mul-accounts
+mul-accounts c = let k = in-array (c .before .before .before .before .before .before .before .before .before) in omega arith
+
+-- src/reports.rt:198:13
+array-set-from-accounts : tie.Need-array-set-from-accounts
+array-set-from-accounts c = in-array (c .before .before .before .before .before .before .before .before .before)
+
+-- src/reports.rt:200:13
+mul-queues : tie.Need-mul-queues
+mul-queues c = search needs
+
+-- src/reports.rt:200:13
+array-set-from-queues : tie.Need-array-set-from-queues
+array-set-from-queues c = in-queues (c .before .before .before .before .before .before .before .before .before .before)
+
+enum-told : tie.Need-enum-told
+enum-told c = search needs
+
+enum-told-2 : tie.Need-enum-told-2
+enum-told-2 c = search needs
+
+-- src/reports.rt:174:1
+same-length : tie.Need-same-length
+same-length c = c .before .before .before .before .before .before .before .before .before .before .before .before .before .before .before .before .before .before .before .before .before .before .before .before .before .advance .kept .1 .1 .1 .1 .0
+
+-- src/reports.rt:174:1
+returns : tie.Need-returns
+returns c = let l = c .before .before .before .before .before .before .before .before .before .before in let f = c .before .before .before .before .before .before .before .before .before .before .before .before .before .before .before .before in let s = start f in
+    arrives-at (s .args .p) (entire s) (time f) (c .before .before .before .before .before .before .before .before .before .before .before .before .before .before .before .before .before .before .before .before .before .before .before .before .before .advance .ensures) (line f) (number f) (len f) (place l) (is-it f) (s .pre)
+    (found-at (s .args .p) (entire s) (frame (time f) (line f) (number f) (len f)) (length (s .args .list .now)) (accepted f) (c .before .before .before .before .before .before .before .before .before .before .before .before .before .place-of .ensures) (l .before .i .given .1)) (c .before .before .settle .result)
+    (rw (c .before .before .before .before .before .before .arrived .ensures) at (c .before .before .settle .ensures (getD (s .args .p .table .numbers) (place l) 0)))
+
+-- src/reports.rt:174:1
+same-length-2 : tie.Need-same-length-2
+same-length-2 c = search needs
+
+-- src/reports.rt:174:1
+returns-2 : tie.Need-returns-2
+returns-2 c = let f = c .before .before .before .before .before in let s = start f in
+    arrives-nowhere (s .args .p) (entire s) (time f) (c .before .before .before .before .before .before .before .before .before .before .before .before .before .before .advance .ensures) (line f) (number f) (len f) (is-it f) (s .pre)
+    (found-nowhere (s .args .p) (entire s) (frame (time f) (line f) (number f) (len f)) (length (s .args .list .now)) (accepted f) (c .before .before .place-of .ensures) (c .enum-told .given .1))
+
+-- src/reports.rt:174:1
+same-length-3 : tie.Need-same-length-3
+same-length-3 c = search needs
+
+-- src/reports.rt:174:1
+returns-3 : tie.Need-returns-3
+returns-3 c = let s = c .before .before .before .before .before .before .before .before .before .before .before .before .before in waits (s .args .p) (entire s) (c .before .before .before .before .before .before .before .before .before .before .before .tick-of .result) (c .before .before .before .before .before .before .before .before .advance .ensures) (is-wait (c .enum-told2 .given .1) (c .before .before .before .before .before .before .before .before .before .before .before .tick-of .ensures)) (s .pre)
+
+pub report-spec : {M : Type 1} → statement M
+report-spec =
+    tie.close
+    (tie.spec
+    tick-of-requires
+    advance-requires
+    enum-known-r
+    mul-line-ticks
+    array-write-line-ticks
+    place-of-requires
+    enum-known-i
+    mul-link
+    element-copy-out-link
+    cast-k
+    mul-arrived
+    element-copy-out-arrived
+    arrived-requires
+    mul-settle
+    array-copy-out-settle
+    mul-settle-2
+    array-copy-out-settle-2
+    mul-settle-3
+    element-copy-out-settle
+    settle-requires
+    mul-accounts
+    array-set-from-accounts
+    mul-queues
+    array-set-from-queues
+    enum-told
+    enum-told-2
+    same-length
+    returns
+    same-length-2
+    returns-2
+    same-length-3
+    returns-3)

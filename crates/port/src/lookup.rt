@@ -1,0 +1,35 @@
+// Looking the number of a virtual link up.
+ghost use Prim.Native.Nat.{_≤_, _<_};
+ghost use mathlib.Core.Path.{_≡_};
+ghost use Rattle.port.specs.Places.{Rising, Found};
+
+pub(crate) enum Place {
+    At(usize),
+    Nowhere,
+}
+
+pub(crate) fn wide(x: u16) -> u64
+    ensures { λ r. ⌜ (r ≡ x) × (r ≤ 65535) ⌝ }
+{
+    x as u64
+}
+
+// The place of a number among the first count, which rise. It is one of the span places from low on, if there is one.
+pub(crate) fn place_of(numbers: &[u16; 256], count: u16, number: u64) -> Place
+    requires { ⌜ (0 < count) × (count ≤ 256) × Rising (now numbers) count ⌝ }
+    ensures { λ r. ⌜ Found (now (numbers .entry)) count number r ⌝ }
+{
+    let mut low: usize = 0;
+    let mut span = count as usize;
+    while 1 < span {
+        let half = span / 2;
+        if wide(numbers[low + half]) <= number {
+            low += half;
+        }
+        span -= half;
+    }
+    if wide(numbers[low]) == number {
+        return Place::At(low);
+    }
+    Place::Nowhere
+}

@@ -1,0 +1,71 @@
+// The refusals of a report, 10 to 16, in order.
+use crate::Port;
+use crate::Report;
+use crate::fitness::fit;
+use crate::lookup::wide;
+ghost use mathlib.Core.Path.{_≡_};
+ghost use Rattle.model.specs.Basics.{firstMet};
+ghost use Rattle.model.specs.Table.{Table as TableOf};
+ghost use Rattle.model.specs.Report.{Port as PortOf, tickOf, frameChecks, reportRefusal};
+ghost use Rattle.port.specs.View.{tableOf, portOf, reportOf};
+ghost use Rattle.port.specs.Refusals.{Clocked, Lines};
+
+pub(crate) fn tick_of(report: Report) -> u64
+    ensures { λ r. ⌜ r ≡ tickOf (reportOf report) ⌝ }
+{
+    match report {
+        Report::Wait(time) => time,
+        Report::Frame(time, _, _, _) => time,
+    }
+}
+
+// 13 to 15, of a frame report alone.
+fn frame_refusal(ticks: [u64; 24], lines: u16, report: Report) -> u32
+    requires { ⌜ Clocked ticks lines ⌝ }
+    ensures { λ r. ⌜ ((t : TableOf) (s : PortOf) → Lines ticks lines t s → r ≡ firstMet (frameChecks t s (reportOf report))) ⌝ }
+{
+    let Report::Frame(time, line, _, length) = report else {
+        return 0;
+    };
+    if wide(lines) <= line {
+        return 13;
+    }
+    if length < 84 {
+        return 14;
+    }
+    if 1538 < length {
+        return 14;
+    }
+    let i = line as usize;
+    if time < ticks[i] + length {
+        return 15;
+    }
+    0
+}
+
+// 0, or the number of the first refusal of a report that is lent a list of so much room.
+pub(crate) fn refusal(p: Port, report: Report, room: usize) -> u32
+    ensures { λ r. ⌜ r ≡ reportRefusal (tableOf p) (portOf p) (reportOf report) room ⌝ }
+{
+    if !fit(p) {
+        return 10;
+    }
+    let time = tick_of(report);
+    if 281474976710655 < time {
+        return 11;
+    }
+    if time < p.clock {
+        return 12;
+    }
+    let ticks = p.line_ticks;
+    let t = p.table;
+    let refused = frame_refusal(ticks, t.lines, report);
+    if refused != 0 {
+        return refused;
+    }
+    let queues = p.queues;
+    if (room as u64) < 3 * scheduler::frames_held(queues) {
+        return 16;
+    }
+    0
+}

@@ -1,0 +1,99 @@
+// The fresh port of a table, and the blank one that stands for none.
+use crate::Fresh;
+use crate::Port;
+use crate::reports::wide32;
+use policing::Account;
+use scheduler::Frame;
+use scheduler::Queue;
+use scheduler::Sender;
+use table::Table;
+use table::VirtualLink;
+ghost use mathlib.Core.Path.{_≡_};
+ghost use Prim.Native.Nat.{_≤_};
+ghost use Rattle.model.specs.Table.{blankTable};
+ghost use Rattle.table.specs.View.{recordOf};
+ghost use Rattle.port.specs.Contracts.{freshOf};
+ghost use Rattle.port.specs.Resting.{fullAccounts, restingWith};
+
+fn blank_table() -> Table
+    ensures { λ r. ⌜ r ≡ recordOf blankTable ⌝ }
+{
+    let blank = VirtualLink {
+        line: 0,
+        priority: 0,
+        code: 0,
+        least: 0,
+        greatest: 0,
+        jitter: 0,
+    };
+    Table {
+        lines: 0,
+        count: 0,
+        numbers: [0u16; 256],
+        links: [blank; 256],
+        sizes: [0u32; 8],
+    }
+}
+
+// Credit B + J for each link; the accounts behind the count are blank.
+fn full_accounts(t: Table) -> [Account; 256]
+    requires { ⌜ t .count ≤ 256 ⌝ }
+    ensures { λ r. ⌜ r ≡ fullAccounts t ⌝ }
+{
+    let n = t.count as usize;
+    let blank = Account { credit: 0, tick: 0 };
+    let mut accounts = [blank; 256];
+    let mut i: usize = 0;
+    while i < n {
+        let link = t.links[i];
+        let full = Account {
+            credit: table::bag(link.code) + wide32(link.jitter),
+            tick: 0,
+        };
+        accounts[i] = full;
+        i += 1;
+    }
+    accounts
+}
+
+// A port with nothing held, at clock 0.
+fn resting_with(table: Table, accounts: [Account; 256]) -> Port
+    ensures { λ r. ⌜ r ≡ restingWith table accounts ⌝ }
+{
+    let entry = Frame {
+        number: 0,
+        length: 0,
+        arrival: 0,
+    };
+    let queue = Queue {
+        count: 0,
+        mark: 0,
+        frames: [entry; 195],
+    };
+    Port {
+        table,
+        clock: 0,
+        queues: [queue; 8],
+        sender: Sender::Idle,
+        line_ticks: [0u64; 24],
+        accounts,
+    }
+}
+
+// 3 to 6; else the fresh port.
+pub(crate) fn fresh(table: Table) -> Fresh
+    ensures { λ r. ⌜ r ≡ freshOf table ⌝ }
+{
+    let refused = table::check(table);
+    if refused != 0 {
+        let blank = Account { credit: 0, tick: 0 };
+        return Fresh {
+            refused,
+            port: resting_with(blank_table(), [blank; 256]),
+        };
+    }
+    Fresh {
+        refused: 0,
+        port: resting_with(table, full_accounts(table)),
+    }
+}
