@@ -2,6 +2,7 @@
 
 mod bounds;
 mod measure;
+mod port;
 mod table;
 
 fn main() {
@@ -9,4 +10,5 @@ fn main() {
     println!("{:<44} {:>12} {:>12} {:>7}", "what", "product", "peer", "ratio");
     table::run();
     bounds::run();
+    port::run();
 }

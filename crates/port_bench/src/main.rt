@@ -1,0 +1,78 @@
+// For bench/: queues frames, then waits at one tick over and over, so that the time of a report can be taken.
+// Standard input: how many frames and how many waits, 8 bytes each, little-endian, then a table file.
+use libc::STDIN_FILENO;
+use libc::STDOUT_FILENO;
+use port::Port;
+ghost use Prim.Native.Nat.{_≤_};
+
+// Room for the departures of a full port.
+const ROOM: usize = 4680;
+
+fn main() {
+    let mut head = [0u8; 16];
+    if io::read_full(STDIN_FILENO, &mut head) < 16 {
+        return;
+    }
+    let mut file = [0u8; 4653];
+    let n = io::read_full(STDIN_FILENO, &mut file);
+    run(&file[..n], number(&head, 0), number(&head, 8));
+}
+
+// Prints how many frames are queued at the end.
+fn run(file: &[u8], frames: u64, waits: u64)
+    requires { ⌜ frames ≤ 16777215 ⌝ }
+{
+    let reading = table::read(file);
+    let t = reading.table;
+    let fresh = Port::fresh(t);
+    let port = waited(filled(fresh.port, frames), waits);
+    let queues = port.queues;
+    io::print_decimal(STDOUT_FILENO, scheduler::frames_held(queues));
+    io::write_all(STDOUT_FILENO, b"\n");
+}
+
+// Frames of 84 bytes of the links 0 to 239, which are on 24 lines in turn, each 84 ticks after the last of its line.
+fn filled(mut port: Port, frames: u64) -> Port
+    requires { ⌜ frames ≤ 16777215 ⌝ }
+{
+    let mut list = [0u64; ROOM];
+    let mut i: u64 = 0;
+    while i < frames {
+        port = framed(port, 84 * (i / 24 + 1), i % 24, i % 240, &mut list);
+        i += 1;
+    }
+    port
+}
+
+fn framed(port: Port, tick: u64, line: u64, number: u64, list: &mut [u64; ROOM]) -> Port {
+    let a = port.frame(tick, line, number, 84, list);
+    a.port
+}
+
+fn waited(mut port: Port, waits: u64) -> Port {
+    let mut list = [0u64; ROOM];
+    let tick = port.clock;
+    let mut i: u64 = 0;
+    while i < waits {
+        port = one_wait(port, tick, &mut list);
+        i += 1;
+    }
+    port
+}
+
+fn one_wait(port: Port, tick: u64, list: &mut [u64; ROOM]) -> Port {
+    let a = port.wait(tick, list);
+    a.port
+}
+
+fn byte(s: &[u8], at: usize) -> u8 {
+    if at < s.len() { s[at] } else { 0 }
+}
+
+// Below 2^24, which is enough.
+fn number(s: &[u8], at: usize) -> u64
+    requires { ⌜ at ≤ 8 ⌝ }
+    ensures { λ r. ⌜ r ≤ 16777215 ⌝ }
+{
+    byte(s, at) as u64 + 256 * (byte(s, at + 1) as u64) + 65536 * (byte(s, at + 2) as u64)
+}
