@@ -8,6 +8,8 @@ pub mod cases;
 pub mod examples;
 pub mod port;
 pub mod random;
+pub mod record;
+pub mod replay;
 pub mod sheet;
 pub mod table;
 pub mod watch;

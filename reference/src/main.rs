@@ -1,36 +1,47 @@
 //! `reference CASES FOLDER` makes the cases, `reference check-CASES FOLDER` compares the committed ones with
-//! what is computed, and `reference watch` watches demand 3 on the lists of the port's cases.
+//! what is computed, `reference watch` watches demand 3 on the lists of the port's cases, and `reference replay
+//! TABLE REPORTS` prints what the program replay must print.
 
-use reference::cases::{bounds, differing, port, store, table, Cases};
+use reference::cases::{bounds, differing, port, replay, store, table, Files};
 use std::env;
+use std::fs;
 use std::path::Path;
 use std::process::ExitCode;
 
-const USAGE: &str = "usage: reference table-cases | bounds-cases | port-cases FOLDER
-       reference check-table-cases | check-bounds-cases | check-port-cases FOLDER
+const USAGE: &str = "usage: reference table-cases | bounds-cases | port-cases | replay-case FOLDER
+       reference check-table-cases | check-bounds-cases | check-port-cases | check-replay-case FOLDER
+       reference replay TABLE REPORTS
        reference watch";
 
-fn make(cases: Cases, folder: &Path) -> Result<(), String> {
-    store(&cases, folder).map_err(|error| format!("{}: {error}", folder.display()))?;
-    print!("{}", cases.summary);
+fn make(files: Files, summary: &str, folder: &Path) -> Result<(), String> {
+    store(&files, folder).map_err(|error| format!("{}: {error}", folder.display()))?;
+    print!("{summary}");
     Ok(())
 }
 
-fn check(cases: Cases, folder: &Path) -> Result<(), String> {
-    let found = differing(&cases, folder).map_err(|error| format!("{}: {error}", folder.display()))?;
+fn check(files: Files, folder: &Path) -> Result<(), String> {
+    let found = differing(&files, folder).map_err(|error| format!("{}: {error}", folder.display()))?;
     match found {
         Some(name) => Err(format!("{}: {name} is not what is computed", folder.display())),
         None => Ok(()),
     }
 }
 
-fn cases_of(name: &str) -> Result<Cases, String> {
-    match name {
-        "table-cases" => Ok(table::cases()),
-        "bounds-cases" => Ok(bounds::cases()),
-        "port-cases" => Ok(port::cases()),
-        _ => Err(USAGE.to_string()),
-    }
+/// The files of the cases, and how many cases there are of each kind.
+fn cases_of(name: &str) -> Result<(Files, String), String> {
+    let mut cases = match name {
+        "table-cases" => table::cases(),
+        "bounds-cases" => bounds::cases(),
+        "port-cases" => port::cases(),
+        "replay-case" => return Ok((replay::files(), String::new())),
+        _ => return Err(USAGE.to_string()),
+    };
+    let summary = std::mem::take(&mut cases.summary);
+    Ok((cases.files(), summary))
+}
+
+fn contents(name: &str) -> Result<Vec<u8>, String> {
+    fs::read(name).map_err(|error| format!("{name}: {error}"))
 }
 
 fn run(words: &[&str]) -> Result<(), String> {
@@ -39,10 +50,18 @@ fn run(words: &[&str]) -> Result<(), String> {
             print!("{}", port::watch()?);
             Ok(())
         }
-        [command, folder] => match command.strip_prefix("check-") {
-            Some(name) => check(cases_of(name)?, Path::new(folder)),
-            None => make(cases_of(command)?, Path::new(folder)),
-        },
+        ["replay", table, reports] => {
+            print!("{}", reference::replay::replay(&contents(table)?, &contents(reports)?));
+            Ok(())
+        }
+        [command, folder] => {
+            let (files, summary) = cases_of(command.strip_prefix("check-").unwrap_or(command))?;
+            if command.starts_with("check-") {
+                check(files, Path::new(folder))
+            } else {
+                make(files, &summary, Path::new(folder))
+            }
+        }
         _ => Err(USAGE.to_string()),
     }
 }

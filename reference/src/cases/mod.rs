@@ -4,6 +4,8 @@ pub mod bounds;
 pub mod lists;
 pub mod make;
 pub mod port;
+pub mod port_records;
+pub mod replay;
 pub mod table;
 pub mod table_files;
 pub mod table_records;
@@ -20,19 +22,30 @@ pub struct Cases {
     pub summary: String,
 }
 
-pub fn store(cases: &Cases, folder: &Path) -> io::Result<()> {
-    fs::create_dir_all(folder)?;
-    fs::write(folder.join("stdin"), &cases.stdin)?;
-    fs::write(folder.join("stdout"), &cases.stdout)
+/// The files of a program's folder, by name.
+pub type Files = Vec<(&'static str, Vec<u8>)>;
+
+impl Cases {
+    pub fn files(self) -> Files {
+        vec![("stdin", self.stdin), ("stdout", self.stdout)]
+    }
+}
+
+pub fn store(files: &Files, folder: &Path) -> io::Result<()> {
+    for (name, bytes) in files {
+        let path = folder.join(name);
+        fs::create_dir_all(path.parent().unwrap_or(folder))?;
+        fs::write(path, bytes)?;
+    }
+    Ok(())
 }
 
 /// The name of the first file in the folder that is not what was computed.
-pub fn differing(cases: &Cases, folder: &Path) -> io::Result<Option<&'static str>> {
-    if fs::read(folder.join("stdin"))? != cases.stdin {
-        return Ok(Some("stdin"));
-    }
-    if fs::read(folder.join("stdout"))? != cases.stdout {
-        return Ok(Some("stdout"));
+pub fn differing(files: &Files, folder: &Path) -> io::Result<Option<&'static str>> {
+    for (name, bytes) in files {
+        if fs::read(folder.join(name))? != *bytes {
+            return Ok(Some(name));
+        }
     }
     Ok(None)
 }

@@ -1,21 +1,24 @@
-//! The cases of the port: tables with lists of reports, and every answer.
+//! The cases of the port: lists of reports on fresh ports and on records handed in, and every answer.
 //!
-//! Standard input is a run of cases: length of a table file (2 bytes, little-endian), the file; number of
-//! reports (2 bytes), the reports at 35 bytes each: form (1 byte; 0 a wait, 1 a frame), length of the lent list
-//! in numbers (2 bytes), then tick, line, number and length (8 bytes each; of a wait only the tick counts).
-//! Every number of a lent list is FILLED before the report.
+//! Standard input is a run of cases: form (1 byte; 1 a table record, whose fresh port is taken, 2 a port record),
+//! length (2 bytes, little-endian), and as many bytes (`port_records` has their form); number of reports
+//! (2 bytes), the reports at 35 bytes each: form (1 byte; 0 a wait, 1 a frame), length of the lent list in numbers
+//! (2 bytes), then tick, line, number and length (8 bytes each; of a wait only the tick counts). Every number of a
+//! lent list is FILLED before the report.
 //!
-//! Standard output has a line for each report, `refused N SUM` or `accepted VERDICT FRAMES BYTES SUM`,
-//! where SUM is the FNV-1a of the whole list afterwards, each number as 8 bytes, little-endian; and behind
-//! the reports of a case `end CLOCK STATE`, then held bytes and mark of each priority. STATE is the FNV-1a of
-//! the port's numbers, in the order of `state_of`.
+//! Standard output has a line for each case and each report. `fresh REFUSED SUM`, or `record`, begins a case; SUM
+//! is that of the port handed out. Then for each report `refused N SUM` or `accepted VERDICT FRAMES BYTES SUM`,
+//! where SUM is the FNV-1a of the whole list afterwards, each number as 8 bytes, little-endian. Behind the
+//! reports `end CLOCK SUM`, then held bytes and mark of each priority; SUM is that of the record's numbers, in
+//! the order of `state_of`, entries of a queue behind its count among them where no report was accepted.
 
 use super::lists::{self, Call, List};
+use super::port_records::{self, record_bytes, table_bytes};
 use super::table::fnv;
 use super::Cases;
 use crate::bounds::bounds;
-use crate::port::{fresh, Port};
-use crate::table::bytes_of;
+use crate::record::Record;
+use crate::table::{Link, Table, MOST_LINKS};
 use crate::watch::{Entry, Watch};
 
 const FILLED: u64 = 0xA5A5_A5A5_A5A5_A5A5;
@@ -25,40 +28,54 @@ fn fnv_of_numbers(numbers: &[u64]) -> u32 {
     fnv(&bytes)
 }
 
-/// For each priority the count, each frame's number, length and arrival, and the mark; then 0 if idle, else 1,
-/// priority and start; then the tick of each line; then credit and tick of each link.
-fn state_of(port: &Port) -> Vec<u64> {
-    let mut numbers = Vec::new();
-    for queue in &port.queues {
-        numbers.push(queue.frames.len() as u64);
-        for frame in &queue.frames {
-            numbers.extend([frame.number, frame.length, frame.arrival]);
-        }
-        numbers.push(queue.mark);
+fn numbers_of_table(table: &Table) -> Vec<u64> {
+    let mut numbers = vec![u64::from(table.lines), u64::from(table.count)];
+    for v in &table.links {
+        numbers.extend([v.number, v.least, v.greatest].map(u64::from));
+        numbers.extend([v.line, v.priority, v.code].map(u64::from));
+        numbers.push(v.jitter.into());
     }
-    match port.sending {
-        Some(sending) => numbers.extend([1, sending.priority as u64, sending.start]),
-        None => numbers.push(0),
-    }
-    numbers.extend(&port.line_ticks);
-    for account in &port.accounts {
-        numbers.extend([account.credit, account.tick]);
-    }
+    numbers.extend(table.sizes.map(u64::from));
     numbers
 }
 
-fn end_line(port: &Port) -> String {
-    let mut line = format!("end {} {}", port.clock, fnv_of_numbers(&state_of(port)));
-    for queue in &port.queues {
-        line += &format!(" {} {}", queue.held(), queue.mark);
+/// The clock; the table; for each priority count and mark, then each frame's number, length and arrival, up to
+/// the count or all of them; 0 if idle, else 1, priority and start; the ticks of all lines; credit and tick of all
+/// links.
+fn state_of(record: &Record, whole: bool) -> u32 {
+    let mut numbers = vec![record.clock];
+    numbers.extend(numbers_of_table(&record.table));
+    for queue in &record.queues {
+        numbers.extend([u64::from(queue.count), u64::from(queue.mark)]);
+        let frames = if whole { &queue.frames } else { queue.queued() };
+        for frame in frames {
+            numbers.extend([u64::from(frame.number), u64::from(frame.length), frame.arrival]);
+        }
+    }
+    match record.sender {
+        Some((priority, start)) => numbers.extend([1, u64::from(priority), start]),
+        None => numbers.push(0),
+    }
+    numbers.extend(record.line_ticks);
+    for account in &record.accounts {
+        numbers.extend([account.credit, account.tick]);
+    }
+    fnv_of_numbers(&numbers)
+}
+
+fn end_line(record: &Record, whole: bool) -> String {
+    let mut line = format!("end {} {}", record.clock, state_of(record, whole));
+    for queue in &record.queues {
+        let held: u64 = queue.queued().iter().map(|frame| u64::from(frame.length)).sum();
+        line += &format!(" {held} {}", queue.mark);
     }
     line + "\n"
 }
 
 /// Runs a report, and gives its line beside what a watch sees of it.
-fn run(port: &mut Port, call: &Call) -> (String, Entry) {
+fn run(record: &mut Record, call: &Call) -> (String, Entry) {
     let mut lent = vec![FILLED; call.list];
-    let answer = port.report(&call.report, &mut lent);
+    let answer = record.report(&call.report, &mut lent);
     let sum = fnv_of_numbers(&lent);
     let (line, freed) = match answer {
         Ok(a) => (format!("accepted {} {} {} {sum}\n", a.verdict, a.frames, a.bytes), a.frames as usize),
@@ -68,12 +85,9 @@ fn run(port: &mut Port, call: &Call) -> (String, Entry) {
     (line, Entry { report: call.report, answer, departures })
 }
 
-fn put_case(stdin: &mut Vec<u8>, list: &List) {
-    let file = bytes_of(&list.table);
-    stdin.extend((file.len() as u16).to_le_bytes());
-    stdin.extend(file);
-    stdin.extend((list.calls.len() as u16).to_le_bytes());
-    for call in &list.calls {
+fn put_calls(stdin: &mut Vec<u8>, calls: &[Call]) {
+    stdin.extend((calls.len() as u16).to_le_bytes());
+    for call in calls {
         stdin.push(u8::from(call.report.frame.is_some()));
         stdin.extend((call.list as u16).to_le_bytes());
         stdin.extend(call.report.tick.to_le_bytes());
@@ -107,26 +121,87 @@ impl Tally {
     }
 }
 
-pub fn cases() -> Cases {
-    let mut cases = Cases { stdin: Vec::new(), stdout: Vec::new(), summary: String::new() };
-    let mut tally = Tally::default();
-    for list in lists::all() {
-        put_case(&mut cases.stdin, &list);
-        let mut port = fresh(&list.table).expect("a good table");
-        for call in &list.calls {
-            let (line, entry) = run(&mut port, call);
-            tally.count(&entry);
-            cases.stdout.extend(line.as_bytes());
-        }
-        cases.stdout.extend(end_line(&port).as_bytes());
+/// The cases while they are made.
+struct Maker {
+    cases: Cases,
+    tally: Tally,
+}
+
+impl Maker {
+    fn put(&mut self, form: u8, bytes: &[u8]) {
+        self.cases.stdin.push(form);
+        self.cases.stdin.extend((bytes.len() as u16).to_le_bytes());
+        self.cases.stdin.extend(bytes);
     }
+
+    fn say(&mut self, line: &str) {
+        self.cases.stdout.extend(line.as_bytes());
+    }
+
+    fn fresh_case(&mut self, table: &Table, calls: &[Call]) {
+        self.put(1, &table_bytes(table));
+        match Record::fresh(table) {
+            Ok(record) => {
+                self.say(&format!("fresh 0 {}\n", state_of(&record, true)));
+                self.run(record, calls);
+            }
+            Err(refusal) => {
+                let nothing = Record::blank(blank_table());
+                self.say(&format!("fresh {refusal} {}\n", state_of(&nothing, true)));
+                self.run(nothing, calls);
+            }
+        }
+    }
+
+    fn record_case(&mut self, record: &Record, calls: &[Call]) {
+        self.put(2, &record_bytes(record));
+        self.say("record\n");
+        self.run(record.clone(), calls);
+    }
+
+    fn run(&mut self, mut record: Record, calls: &[Call]) {
+        put_calls(&mut self.cases.stdin, calls);
+        let mut accepted = false;
+        for call in calls {
+            let (line, entry) = run(&mut record, call);
+            self.tally.count(&entry);
+            accepted |= entry.answer.is_ok();
+            self.say(&line);
+        }
+        self.say(&end_line(&record, !accepted));
+    }
+}
+
+/// "no table": what stands beside a refusal.
+fn blank_table() -> Table {
+    Table { lines: 0, count: 0, links: [Link::default(); MOST_LINKS], sizes: [0; 8] }
+}
+
+pub fn cases() -> Cases {
+    let cases = Cases { stdin: Vec::new(), stdout: Vec::new(), summary: String::new() };
+    let mut maker = Maker { cases, tally: Tally::default() };
+    for List { table, calls } in lists::all() {
+        maker.fresh_case(&table, &calls);
+    }
+    let tables = port_records::tables();
+    for table in &tables {
+        maker.fresh_case(table, &port_records::calls_at(0));
+    }
+    let records = port_records::all();
+    for (record, calls) in &records {
+        maker.record_case(record, calls);
+    }
+    let Maker { mut cases, tally } = maker;
     cases.summary = format!(
-        "lists: {}; reports: {}; stored, filtered, policed, dropped: {:?}; waits: {}; refused 11 to 16: {:?}\n",
+        "lists: {}; wrong tables: {}; records: {}; reports: {}; stored, filtered, policed, dropped: {:?}; waits: {}; \
+         refused 10 to 16: {:?}\n",
         lists::LISTS,
+        tables.len(),
+        records.len(),
         tally.reports,
         tally.verdicts,
         tally.waits,
-        &tally.refused[11..]
+        &tally.refused[10..]
     );
     cases
 }
@@ -140,9 +215,10 @@ pub fn watch() -> Result<String, String> {
             continue;
         };
         let mut watch = Watch::new(&list.table, &found);
-        let mut port = fresh(&list.table).expect("a good table");
+        let mut record = Record::fresh(&list.table).expect("a good table");
         for (k, call) in list.calls.iter().enumerate() {
-            let (_, entry) = run(&mut port, call);
+            let (_, entry) = run(&mut record, call);
+            let port = record.port().expect("counts within the arrays");
             watch
                 .take(&entry)
                 .and_then(|()| watch.compare(&port))
@@ -166,7 +242,7 @@ mod tests {
     #[test]
     fn there_are_lists_of_each_kind() {
         let text = String::from_utf8(cases().stdout).expect("plain text");
-        for number in 11..=16 {
+        for number in 10..=16 {
             assert!(
                 text.lines().filter(|line| line.starts_with(&format!("refused {number} "))).count() >= 100
             );

@@ -1,0 +1,76 @@
+-- `port_cases::record::ticks_at` is safe and ends: it stays within the lines. Assumes nothing.
+use Prim.Native.Nat.{_≤_, _-_}
+use mathlib.Core.Path.{_≡_}
+use lib.ListN.{length}
+use borrow.Author.Needs.{needs}
+use Rattle.port_cases.proofs.record.ticks_at.Statement.{statement}
+use Rattle.port_cases.proofs.record.ticks_at.Tie as tie
+
+abbrev Inv-loop : tie.InvT-loop
+Inv-loop s at n ticks₀ i₀ ticks i = (i ≤ n) × (n ≤ 24) × (length ticks ≡ 24)
+
+abbrev μ-loop : tie.MeasureT-loop
+μ-loop s at n ticks₀ i₀ ticks i = n - i
+
+add-given : tie.Need-add-given Inv-loop μ-loop
+add-given c = search needs
+
+given-requires : tie.Need-given-requires Inv-loop μ-loop
+given-requires c κs = search needs
+
+eight-requires : tie.Need-eight-requires Inv-loop μ-loop
+eight-requires c κs = search needs
+
+loop-holds : tie.Need-loop-holds Inv-loop μ-loop
+loop-holds c = search needs
+
+add-eight : tie.Need-add-eight Inv-loop μ-loop
+add-eight c = search needs
+
+mul-eight : tie.Need-mul-eight Inv-loop μ-loop
+mul-eight c = search needs
+
+add-eight-2 : tie.Need-add-eight-2 Inv-loop μ-loop
+add-eight-2 c = search needs
+
+eight-requires-2 : tie.Need-eight-requires-2 Inv-loop μ-loop
+eight-requires-2 c κs = search needs
+
+mul-ticks : tie.Need-mul-ticks Inv-loop μ-loop
+mul-ticks c = search needs
+
+array-write-ticks : tie.Need-array-write-ticks Inv-loop μ-loop
+array-write-ticks c = search needs
+
+add-i : tie.Need-add-i Inv-loop μ-loop
+add-i c = search needs
+
+loop-less : tie.Need-loop-less Inv-loop μ-loop
+loop-less c = search needs
+
+loop-again : tie.Need-loop-again Inv-loop μ-loop
+loop-again c = search needs
+
+returns : tie.Need-returns Inv-loop μ-loop
+returns c = search needs
+
+pub ticks-at-spec : {M : Type 1} → statement M
+ticks-at-spec =
+    tie.close
+    (tie.spec
+    Inv-loop
+    μ-loop
+    add-given
+    given-requires
+    eight-requires
+    loop-holds
+    add-eight
+    mul-eight
+    add-eight-2
+    eight-requires-2
+    mul-ticks
+    array-write-ticks
+    add-i
+    loop-less
+    loop-again
+    returns)

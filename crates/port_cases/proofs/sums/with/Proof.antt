@@ -1,0 +1,33 @@
+-- `port_cases::sums::with` is safe and ends. Assumes nothing.
+use Prim.Native.Nat.{_≤_, _-_}
+use borrow.Author.Needs.{needs}
+use Rattle.port_cases.proofs.sums.with.Statement.{statement}
+use Rattle.port_cases.proofs.sums.with.Tie as tie
+
+abbrev Inv-loop : tie.InvT-loop
+Inv-loop sum number r₀ rest₀ i₀ r rest i = i ≤ 8
+
+abbrev μ-loop : tie.MeasureT-loop
+μ-loop sum number r₀ rest₀ i₀ r rest i = 8 - i
+
+loop-holds : tie.Need-loop-holds Inv-loop μ-loop
+loop-holds c = search needs
+
+mul-r : tie.Need-mul-r Inv-loop μ-loop
+mul-r c = search needs
+
+add-i : tie.Need-add-i Inv-loop μ-loop
+add-i c = search needs
+
+loop-less : tie.Need-loop-less Inv-loop μ-loop
+loop-less c = search needs
+
+loop-again : tie.Need-loop-again Inv-loop μ-loop
+loop-again c = search needs
+
+returns : tie.Need-returns Inv-loop μ-loop
+returns c = search needs
+
+pub with-spec : {M : Type 1} → statement M
+with-spec =
+    tie.close (tie.spec Inv-loop μ-loop loop-holds mul-r add-i loop-less loop-again returns)

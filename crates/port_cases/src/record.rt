@@ -1,0 +1,174 @@
+// Table and port records of a case. An array stands there as its last entry, how many are given (2 bytes),
+// and these.
+use crate::field::byte;
+use crate::field::eight;
+use crate::field::four;
+use crate::field::given;
+use crate::field::two;
+use policing::Account;
+use port::Port;
+use scheduler::Frame;
+use scheduler::Queue;
+use scheduler::Sender;
+use table::Table;
+use table::VirtualLink;
+ghost use Prim.Native.Nat.{_≤_};
+
+// Lines, count, links, sizes.
+pub(crate) fn table_at(s: &[u8], at: usize) -> Table
+    requires { ⌜ at ≤ 100 ⌝ }
+{
+    let n = given(s, at + 17, 256);
+    let mut numbers = [two(s, at + 4); 256];
+    let last = link_at(s, at + 6);
+    let mut links = [last; 256];
+    for i in 0..n {
+        numbers[i] = two(s, at + 19 + 13 * i);
+        links[i] = link_at(s, at + 21 + 13 * i);
+    }
+    let sizes = sizes_at(s, at + 19 + 13 * n);
+    Table {
+        lines: two(s, at),
+        count: two(s, at + 2),
+        numbers,
+        links,
+        sizes,
+    }
+}
+
+fn table_length(s: &[u8], at: usize) -> usize
+    requires { ⌜ at ≤ 100 ⌝ }
+    ensures { λ r. ⌜ r ≤ 3400 ⌝ }
+{
+    51 + 13 * given(s, at + 17, 256)
+}
+
+fn link_at(s: &[u8], at: usize) -> VirtualLink
+    requires { ⌜ at ≤ 60000 ⌝ }
+{
+    VirtualLink {
+        line: byte(s, at),
+        priority: byte(s, at + 1),
+        code: byte(s, at + 2),
+        least: two(s, at + 3),
+        greatest: two(s, at + 5),
+        jitter: four(s, at + 7),
+    }
+}
+
+fn sizes_at(s: &[u8], at: usize) -> [u32; 8]
+    requires { ⌜ at ≤ 60000 ⌝ }
+{
+    let mut sizes = [0u32; 8];
+    for p in 0..8 {
+        sizes[p] = four(s, at + 4 * p);
+    }
+    sizes
+}
+
+// Clock, sender (kind, priority, start), table, line ticks, accounts, queues.
+pub(crate) fn port_of(s: &[u8]) -> Port {
+    let table = table_at(s, 18);
+    let lines = 18 + table_length(s, 18);
+    let line_ticks = ticks_at(s, lines);
+    let links = lines + 10 + 8 * given(s, lines + 8, 24);
+    let accounts = accounts_at(s, links);
+    let queues = queues_at(s, links + 18 + 16 * given(s, links + 16, 256));
+    let sender = sender_at(s, 8);
+    Port {
+        table,
+        clock: eight(s, 0),
+        queues,
+        sender,
+        line_ticks,
+        accounts,
+    }
+}
+
+fn sender_at(s: &[u8], at: usize) -> Sender
+    requires { ⌜ at ≤ 60000 ⌝ }
+{
+    if byte(s, at) == 0 {
+        return Sender::Idle;
+    }
+    Sender::Sending(byte(s, at + 1), eight(s, at + 2))
+}
+
+fn ticks_at(s: &[u8], at: usize) -> [u64; 24]
+    requires { ⌜ at ≤ 60000 ⌝ }
+{
+    let n = given(s, at + 8, 24);
+    let mut ticks = [eight(s, at); 24];
+    for i in 0..n {
+        ticks[i] = eight(s, at + 10 + 8 * i);
+    }
+    ticks
+}
+
+fn account_at(s: &[u8], at: usize) -> Account
+    requires { ⌜ at ≤ 70000 ⌝ }
+{
+    Account {
+        credit: eight(s, at),
+        tick: eight(s, at + 8),
+    }
+}
+
+fn accounts_at(s: &[u8], at: usize) -> [Account; 256]
+    requires { ⌜ at ≤ 60000 ⌝ }
+{
+    let n = given(s, at + 16, 256);
+    let last = account_at(s, at);
+    let mut accounts = [last; 256];
+    for i in 0..n {
+        accounts[i] = account_at(s, at + 18 + 16 * i);
+    }
+    accounts
+}
+
+fn frame_at(s: &[u8], at: usize) -> Frame
+    requires { ⌜ at ≤ 70000 ⌝ }
+{
+    Frame {
+        number: two(s, at),
+        length: two(s, at + 2),
+        arrival: eight(s, at + 4),
+    }
+}
+
+// Count, mark, frames.
+fn queue_at(s: &[u8], at: usize) -> Queue
+    requires { ⌜ at ≤ 60000 ⌝ }
+{
+    let n = given(s, at + 18, 195);
+    let last = frame_at(s, at + 6);
+    let mut frames = [last; 195];
+    for i in 0..n {
+        frames[i] = frame_at(s, at + 20 + 12 * i);
+    }
+    Queue {
+        count: two(s, at),
+        mark: four(s, at + 2),
+        frames,
+    }
+}
+
+fn queue_length(s: &[u8], at: usize) -> usize
+    requires { ⌜ at ≤ 60000 ⌝ }
+    ensures { λ r. ⌜ r ≤ 2400 ⌝ }
+{
+    20 + 12 * given(s, at + 18, 195)
+}
+
+fn queues_at(s: &[u8], from: usize) -> [Queue; 8]
+    requires { ⌜ from ≤ 20000 ⌝ }
+{
+    let first = queue_at(s, from);
+    let mut queues = [first; 8];
+    let mut at = from;
+    for p in 0..8 {
+        queues[p] = queue_at(s, at);
+        at += queue_length(s, at);
+    }
+    queues
+}

@@ -1,0 +1,81 @@
+// replay TABLE REPORTS: runs the reports of a file through the port of a table file, and prints the
+// answer of each, then held bytes and mark of each priority. A report is five little-endian numbers of
+// 8 bytes: form (0 a wait, 1 a frame), tick, line, number, length.
+mod answers;
+mod field;
+mod parts;
+mod text;
+
+use libc::SEEK_SET;
+use port::Port;
+use table::Table;
+use text::say;
+use text::text_of;
+
+// The longest table file, and a byte more.
+const TABLE: usize = 4653;
+
+fn main() {
+    if os::arg_count() != 3 {
+        say(text_of(b"usage: replay TABLE REPORTS\n"));
+        return;
+    }
+    let mut name = io::buffer();
+    let n = os::arg(1, &mut name);
+    with_table(&name[..n]);
+}
+
+fn with_table(name: &[u8]) {
+    let fd = os::open_read(name);
+    if fd < 0 {
+        answers::failed(b"can't open ", name);
+        return;
+    }
+    let mut file = [0u8; TABLE];
+    let n = io::read_full(fd, &mut file);
+    let is_whole = n == TABLE || parts::has_ended(fd);
+    libc::close(fd);
+    if !is_whole {
+        answers::failed(b"can't read ", name);
+        return;
+    }
+    let reading = table::read(&file[..n]);
+    if reading.refused != 0 {
+        answers::refused(reading.refused as u64);
+        return;
+    }
+    let t = reading.table;
+    let mut second = io::buffer();
+    let k = os::arg(2, &mut second);
+    with_reports(t, &second[..k]);
+}
+
+// The reports are read twice: nothing is printed of a file that has something else in it.
+fn with_reports(t: Table, name: &[u8]) {
+    let fd = os::open_read(name);
+    if fd < 0 {
+        answers::failed(b"can't open ", name);
+        return;
+    }
+    let state = parts::check(fd);
+    if state == parts::OTHER {
+        answers::refused(19);
+    } else if !replayed(t, fd, state) {
+        answers::failed(b"can't read ", name);
+    }
+    libc::close(fd);
+}
+
+// Whether the file could be read to its end, both times.
+fn replayed(t: Table, fd: i32, state: u8) -> bool {
+    if state != parts::ENDED || libc::lseek(fd, 0, SEEK_SET) != 0 {
+        return false;
+    }
+    let start = Port::fresh(t);
+    if start.refused != 0 {
+        answers::refused(start.refused as u64);
+        return true;
+    }
+    let port = start.port;
+    parts::replay(port, fd)
+}

@@ -1,0 +1,99 @@
+//! The case of the program replay: a table file, a file of reports, and what is printed.
+
+use super::make::table_of;
+use super::Files;
+use crate::examples::link;
+use crate::port::{Arrival, Report, LAST_TICK};
+use crate::replay::{bytes_of, replay};
+use crate::table::{self, Link, Table};
+
+/// Three lines, and links that share a priority, a line, or neither; priority 3 has no room for its link.
+fn table() -> Table {
+    let links = [
+        link(10, 0, 0, 500),
+        Link { least: 100, jitter: 1_000, ..link(20, 1, 0, 1_538) },
+        Link { code: 1, ..link(30, 1, 1, 1_000) },
+        Link { jitter: 12_500, ..link(40, 2, 1, 600) },
+        Link { code: 7, ..link(65_535, 2, 3, 700) },
+    ];
+    table_of(3, &links, [1_900, 1_200, 0, 699, 0, 0, 0, 16_384])
+}
+
+fn wait(tick: u64) -> Report {
+    Report { tick, frame: None }
+}
+
+fn frame(tick: u64, line: u64, number: u64, length: u64) -> Report {
+    Report { tick, frame: Some(Arrival { line, number, length }) }
+}
+
+/// Each verdict, departures of none, one and several frames, and the refusals 11 to 15.
+fn reports() -> Vec<Report> {
+    let last = LAST_TICK;
+    vec![
+        wait(0),
+        frame(83, 0, 10, 84),
+        frame(84, 0, 10, 84),
+        frame(1_000, 1, 30, 1_000),
+        frame(1_001, 0, 10, 500),
+        frame(13_000, 0, 10, 500),
+        frame(13_500, 0, 10, 500),
+        frame(13_500, 2, 40, 600),
+        frame(13_499, 1, 20, 1_538),
+        frame(14_000, 0, 11, 84),
+        frame(14_083, 0, 10, 84),
+        frame(14_100, 1, 20, 1_538),
+        frame(14_100, 2, 40, 600),
+        frame(14_183, 2, 40, 84),
+        frame(14_184, 2, 40, 84),
+        wait(14_185),
+        frame(15_700, 1, 10, 500),
+        frame(15_800, 1, 20, 99),
+        frame(15_900, 2, 65_535, 701),
+        frame(16_600, 2, 65_535, 700),
+        frame(17_500, 2, 65_535, 700),
+        frame(17_500, 3, 10, 500),
+        frame(17_500, 0, 10, 83),
+        frame(17_500, 0, 10, 1_539),
+        frame(17_500, u64::MAX, u64::MAX, u64::MAX),
+        wait(17_499),
+        wait(last + 1),
+        frame(u64::MAX, 0, 10, 500),
+        frame(30_000, 0, 10, 500),
+        frame(30_000, 1, 30, 1_000),
+        frame(30_000, 2, 40, 200),
+        wait(32_000),
+        wait(last - 1_000),
+        frame(last - 500, 0, 65_546, 500),
+        frame(last, 0, 10, 500),
+        frame(last, 1, 20, 1_400),
+        frame(last, 1, 20, 1_400),
+        frame(last, 2, 40, 600),
+    ]
+}
+
+/// The files of the program's folder.
+pub fn files() -> Files {
+    let table = table::bytes_of(&table());
+    let reports: Vec<u8> = reports().iter().flat_map(bytes_of).collect();
+    let stdout = replay(&table, &reports).into_bytes();
+    let args = b"table\nreports\n".to_vec();
+    vec![("args", args), ("data/table", table), ("data/reports", reports), ("stdout", stdout)]
+}
+
+#[cfg(test)]
+mod tests {
+    use super::*;
+
+    #[test]
+    fn there_is_each_kind_of_answer() {
+        let files = files();
+        let text = String::from_utf8(files[3].1.clone()).expect("plain text");
+        for begins in ["0 0", "0 1", "0 3", "1 ", "2 ", "3 "] {
+            assert!(text.contains(&format!("\naccepted {begins}")), "{begins}");
+        }
+        for number in 11..=15 {
+            assert!(text.contains(&format!("\nrefused {number}\n")), "{number}");
+        }
+    }
+}
