@@ -10,4 +10,7 @@ pub mod Answers
 pub mod Due
 pub mod Cases
 pub mod ReadSteps
+pub mod Taken
+pub mod Turns
+pub mod Rows
 pub mod Shown

@@ -1,31 +1,24 @@
 -- Reading a file record by record.
 use mathlib.Core.Path.{_≡_, refl, sym, ap, _∙_}
-use mathlib.Core.Bool.{Bool, true, false, cond, not}
 use mathlib.Core.Option.{Option, none, some}
 use mathlib.Core.List.{List, [], _∷_, _++_, map}
-use Prim.Native.Nat.{ℕ, zero, suc, _+_, _-_, _*_, _≤_, _<_}
+use Prim.Native.Nat.{ℕ, zero, suc, _+_, _-_, _≤_, _<_}
 use native.Mathlib.Omega.{arith}
-use lib.Dec.{eqb, leb, ltb}
 use borrow.Author.Tests.{not-false}
-use lib.ListN.{length, getD, set, take, drop, replicate, length-append, length-drop}
-use lib.Seq.{take-all}
-use types.Run.{OneOf, miss}
-use denote.Enum.Declared.{tagOf}
-use Rattle.model.specs.Basics.{entries, Check, check, firstMet}
+use lib.ListN.{length, getD, set, drop, replicate, length-append}
+use Rattle.model.specs.Basics.{entries, firstMet}
 use Rattle.model.specs.Link.{VirtualLink}
-use Rattle.model.specs.Table.{Table, blankTable, countsInRange, countChecks, linkChecks, sizeChecks}
+use Rattle.model.specs.Table.{blankTable, countsInRange, countChecks}
 use Rattle.model.specs.TableFile.{numberAt, headerChecks, linkRead, sizesRead, Reading, stopOr, readSizes, readLinks, readTable, countRecordChecks, linkRecordChecks, sizesRecordChecks}
-use Rattle.model.proofs.Checks.{NoneMet, none-met, none-front, none-back}
-use Rattle.model.proofs.TableFacts.{counts-fit, CountsFit}
-use Rattle.model.proofs.FileWrite.{header-fits}
+use Rattle.model.proofs.Checks.{NoneMet, none-met, none-back}
+use Rattle.model.proofs.TableFacts.{counts-fit}
 use Rattle.table.specs.declared.VirtualLink.{VirtualLink as LinkFields}
 use Rattle.table.specs.declared.Record.{Record}
-use Rattle.table.specs.declared.Record.the-variants.{Counts, Link, Sizes, Refused}
+use Rattle.table.specs.declared.Record.the-variants.{Counts, Link, Sizes}
 use Rattle.table.specs.declared.Reading.{Reading as ReadingRecord}
 use Rattle.table.specs.Checks.{previousOf}
 use Rattle.table.specs.View.{linkOf, fieldsOf, blankFields, recordOf}
 use Rattle.table.specs.Records.{Said, saying, linkValues, said, saidOr, countsDue, linkDue, sizesDue, dueAt, readingOf}
-use Rattle.table.proofs.Record.{the-type}
 use Rattle.table.proofs.Refusals.{previous-more}
 use Rattle.table.proofs.Due.{due-counts, due-link, due-sizes}
 
@@ -40,26 +33,8 @@ unfolding saidOr
 said-stops s next zero e z = absurd (z (ap (λ (u : Said). u .kind) e))
 said-stops s next (suc n) e z = (λ q. omega arith, ap (λ (u : Said). u .refused) e)
 
-no-counts : (x : Record) → OneOf (1 ∷ 2 ∷ 3 ∷ []) (tagOf the-type x) → said x .kind ≡ 1 → ⊥
-unfolding said
-no-counts (Counts lines n) o e = miss (1 ∷ 2 ∷ 3 ∷ []) 0 tt o
-no-counts (Link number v) o e = omega arith
-no-counts (Sizes a b c d f g h i) o e = omega arith
-no-counts (Refused n) o e = omega arith
-
-no-link : (x : Record) → OneOf (0 ∷ 2 ∷ 3 ∷ []) (tagOf the-type x) → said x .kind ≡ 2 → ⊥
-unfolding said
-no-link (Counts lines n) o e = omega arith
-no-link (Link number v) o e = miss (0 ∷ 2 ∷ 3 ∷ []) 1 tt o
-no-link (Sizes a b c d f g h i) o e = omega arith
-no-link (Refused n) o e = omega arith
-
-no-sizes : (x : Record) → OneOf (0 ∷ 1 ∷ 3 ∷ []) (tagOf the-type x) → said x .kind ≡ 3 → ⊥
-unfolding said
-no-sizes (Counts lines n) o e = omega arith
-no-sizes (Link number v) o e = omega arith
-no-sizes (Sizes a b c d f g h i) o e = miss (0 ∷ 1 ∷ 3 ∷ []) 2 tt o
-no-sizes (Refused n) o e = omega arith
+said-kind : (s next : Said) (n : ℕ) → s ≡ saidOr n next → (s .kind ≡ 0 → ⊥) → s .kind ≡ next .kind
+said-kind s next n e z = ap (λ (u : Said). u .kind) (said-goes s next n e z .1)
 
 -- ---- where the reader stops
 stop-is : (n : ℕ) (next : Reading) → (n ≡ 0 → ⊥) → stopOr n next ≡ record { refused = n; table = blankTable }
@@ -127,10 +102,13 @@ module _ (file : List ℕ) where
   unfolding countsDue counts-met countRecordChecks
   counts-said = due-counts file 0 0 0 0 refl
 
-  pub counts-stop : (x : Record) (m : ℕ) (a : ReadingRecord) → said x ≡ dueAt file 0 0 0 0 → OneOf (1 ∷ 2 ∷ 3 ∷ []) (tagOf the-type x) → m ≡ said x .refused →
+  pub counts-stop : (x : Record) (m : ℕ) (a : ReadingRecord) → said x ≡ dueAt file 0 0 0 0 → (said x .kind ≡ 1 → ⊥) → m ≡ said x .refused →
       a ≡ record { refused = m; table = recordOf blankTable } → a ≡ readingOf (readTable file)
   counts-stop x m a e o p f =
-      stopped (readTable file) counts-met m after-counts (said x) (saying 1 (numberAt 4 2 file ∷ numberAt 6 2 file ∷ [])) a counts-step (e ∙ counts-said) (no-counts x o) p f
+      stopped (readTable file) counts-met m after-counts (said x) (saying 1 (numberAt 4 2 file ∷ numberAt 6 2 file ∷ [])) a counts-step (e ∙ counts-said) o p f
+
+  pub counts-kind : (x : Record) → said x ≡ dueAt file 0 0 0 0 → (said x .kind ≡ 0 → ⊥) → said x .kind ≡ 1
+  counts-kind x e z = said-kind (said x) (saying 1 (numberAt 4 2 file ∷ numberAt 6 2 file ∷ [])) counts-met (e ∙ counts-said) z
 
   counts-pass : counts-met ≡ 0 → NoneMet (headerChecks 1 6 file ++ countChecks (numberAt 4 2 file) (numberAt 6 2 file))
   unfolding counts-met countRecordChecks headerChecks
@@ -154,22 +132,18 @@ module _ (file : List ℕ) where
     count-is : n ≡ numberAt 6 2 file
     count-is = ap (λ (l : List ℕ). getD l 1 0) counts-same
 
-    pub counts-room : 8 ≤ length file
-    counts-room = header-fits 1 6 file (none-front (headerChecks 1 6 file) (countChecks (numberAt 4 2 file) (numberAt 6 2 file)) (counts-pass (counts-parts .0))) .body
-
     count-few : n ≤ 256
     count-few =
         let met = none-back (headerChecks 1 6 file) (countChecks (numberAt 4 2 file) (numberAt 6 2 file)) (counts-pass (counts-parts .0)) .0 in
         rw count-is (counts-fit (numberAt 4 2 file) (numberAt 6 2 file) (not-false (countsInRange (numberAt 4 2 file) (numberAt 6 2 file)) met) .links-most)
 
-    start-left : readTable file ≡ readLinks lines (n - 0) (previousOf 0 0) [] (take (length file - 8) (drop 8 file))
+    start-left : readTable file ≡ readLinks lines (n - 0) (previousOf 0 0) [] (drop 8 file)
     unfolding after-counts previousOf
     start-left =
-        let whole : take (length file - 8) (drop 8 file) ≡ drop 8 file = take-all (length file - 8) (drop 8 file) (omega (arith, length-drop 8 file)) in
         let k : n - 0 ≡ n = omega arith in
-        rw (k, whole, lines-are, count-is) (counts-step ∙ go-is counts-met after-counts (counts-parts .0))
+        rw (k, lines-are, count-is) (counts-step ∙ go-is counts-met after-counts (counts-parts .0))
 
-    pub counts-go : (blank : LinkFields) → blank ≡ blankFields → SoFar file lines n (replicate 256 0) (replicate 256 blank) 0 (take (length file - 8) (drop 8 file)) 1
+    pub counts-go : (blank : LinkFields) → blank ≡ blankFields → SoFar file lines n (replicate 256 0) (replicate 256 blank) 0 (drop 8 file) 1
     counts-go blank f =
         record {
           few = count-few;
@@ -198,10 +172,6 @@ module _ (lines : ℕ) (previous : Option ℕ) (rest : List ℕ) where
   unfolding linkDue link-met linkRecordChecks
   link-said = refl
 
-  link-pass : link-met ≡ 0 → NoneMet (headerChecks 2 16 rest ++ (check 4 (not (eqb (numberAt 9 1 rest) 0)) ∷ linkChecks lines previous (linkRead rest)))
-  unfolding link-met linkRecordChecks headerChecks
-  link-pass z = none-met 9 (linkRecordChecks lines previous rest) (omega arith) z
-
   module _ (x : Record) (number : ℕ) (v : LinkFields) (e : said x ≡ linkDue lines previous rest) (q : x ≡ Link number v) where
     kind-two : said x .kind ≡ 0 → ⊥
     unfolding said
@@ -219,10 +189,6 @@ module _ (lines : ℕ) (previous : Option ℕ) (rest : List ℕ) where
 
     fields-are : v ≡ fieldsOf (linkRead rest)
     fields-are = ap fieldsAmong link-same
-
-    link-room : 18 ≤ length rest
-    link-room =
-        header-fits 2 16 rest (none-front (headerChecks 2 16 rest) (check 4 (not (eqb (numberAt 9 1 rest) 0)) ∷ linkChecks lines previous (linkRead rest)) (link-pass (link-parts .0))) .body
 
 module _ {file : List ℕ} {lines count : ℕ} {numbers : List ℕ} {links : List LinkFields} {previous : ℕ} {rest : List ℕ} {read : ℕ}
     (s : SoFar file lines count numbers links previous rest read) (x : Record) (e : said x ≡ dueAt rest read count lines previous) where
@@ -243,16 +209,16 @@ module _ {file : List ℕ} {lines count : ℕ} {numbers : List ℕ} {links : Lis
         let k : count - length (s .found) ≡ suc (count - read) = omega (arith, index) in
         s .left ∙ rw k (link-step lines (previousOf (read - 1) previous) rest (count - read) (s .found))
 
-    pub link-stop : (m : ℕ) (a : ReadingRecord) → OneOf (0 ∷ 2 ∷ 3 ∷ []) (tagOf the-type x) → m ≡ said x .refused → a ≡ record { refused = m; table = recordOf blankTable } →
+    pub link-stop : (m : ℕ) (a : ReadingRecord) → (said x .kind ≡ 2 → ⊥) → m ≡ said x .refused → a ≡ record { refused = m; table = recordOf blankTable } →
         a ≡ readingOf (readTable file)
     link-stop m a o p f =
         stopped (readTable file) (link-met lines (previousOf (read - 1) previous) rest) m _ (said x) (saying 2 (linkValues (linkRead rest))) a next-link
-        (said-link ∙ link-said lines (previousOf (read - 1) previous) rest) (no-link x o) p f
+        (said-link ∙ link-said lines (previousOf (read - 1) previous) rest) o p f
+
+    pub link-kind : (said x .kind ≡ 0 → ⊥) → said x .kind ≡ 2
+    link-kind z = said-kind (said x) (saying 2 (linkValues (linkRead rest))) (link-met lines (previousOf (read - 1) previous) rest) (said-link ∙ link-said lines (previousOf (read - 1) previous) rest) z
 
     module _ (number : ℕ) (v : LinkFields) (q : x ≡ Link number v) where
-      pub link-there : 18 ≤ length rest
-      link-there = link-room lines (previousOf (read - 1) previous) rest x number v said-link q
-
       number-here : number ≡ linkRead rest .number
       number-here = number-is lines (previousOf (read - 1) previous) rest x number v said-link q
 
@@ -268,9 +234,8 @@ module _ {file : List ℕ} {lines count : ℕ} {numbers : List ℕ} {links : Lis
       longer : length (s .found ++ (linkRead rest ∷ [])) ≡ read
       longer = length-append (s .found) (linkRead rest ∷ []) ∙ s .before
 
-      pub link-go : SoFar file lines count (set numbers (read - 1) number) (set links (read - 1) v) number (take (length rest - 18) (drop 18 rest)) (read + 1)
+      pub link-go : SoFar file lines count (set numbers (read - 1) number) (set links (read - 1) v) number (drop 18 rest) (read + 1)
       link-go =
-          let whole : take (length rest - 18) (drop 18 rest) ≡ drop 18 rest = take-all (length rest - 18) (drop 18 rest) (omega (arith, length-drop 18 rest)) in
           let same : read + 1 - 1 ≡ read - 1 + 1 = omega (arith, s .before) in
           record {
             few = s .few;
@@ -279,7 +244,7 @@ module _ {file : List ℕ} {lines count : ℕ} {numbers : List ℕ} {links : Lis
             within = omega arith;
             numbered = rw (s .numbered, ← index, number-here) (entries-more 0 (λ (u : VirtualLink). u .number) 256 (s .found) (linkRead rest) (omega (arith, s .few, index)));
             filled = rw (s .filled, ← index, fields-here) (entries-more blankFields fieldsOf 256 (s .found) (linkRead rest) (omega (arith, s .few, index)));
-            left = rw (longer, whole, same, previous-more, number-here) further;
+            left = rw (longer, same, previous-more, number-here) further;
           }
 
   -- ---- sizes
@@ -301,9 +266,9 @@ module _ {file : List ℕ} {lines count : ℕ} {numbers : List ℕ} {links : Lis
     unfolding sizesDue sizes-met sizesRecordChecks
     said-sizes = e ∙ due-sizes rest read count lines previous not-first h
 
-    pub sizes-stop : (m : ℕ) (a : ReadingRecord) → OneOf (0 ∷ 1 ∷ 3 ∷ []) (tagOf the-type x) → m ≡ said x .refused → a ≡ record { refused = m; table = recordOf blankTable } →
+    pub sizes-stop : (m : ℕ) (a : ReadingRecord) → (said x .kind ≡ 3 → ⊥) → m ≡ said x .refused → a ≡ record { refused = m; table = recordOf blankTable } →
         a ≡ readingOf (readTable file)
-    sizes-stop m a o p f = stopped (readTable file) sizes-met m table-read (said x) (saying 3 (sizesRead rest)) a sizes-step said-sizes (no-sizes x o) p f
+    sizes-stop m a o p f = stopped (readTable file) sizes-met m table-read (said x) (saying 3 (sizesRead rest)) a sizes-step said-sizes o p f
 
     module _ (a b c d f g i j : ℕ) (q : x ≡ Sizes a b c d f g i j) where
       kind-three : said x .kind ≡ 0 → ⊥

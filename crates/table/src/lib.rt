@@ -2,6 +2,8 @@
 mod bytes;
 mod checks;
 mod records;
+mod steps;
+mod walk;
 mod writer;
 
 ghost use mathlib.Core.Path.{_≡_};
@@ -116,41 +118,7 @@ fn refused(number: u32) -> Reading
 pub fn read(file: &[u8]) -> Reading
     ensures { λ r. ⌜ r ≡ readingOf (readTable (now (file .entry))) ⌝ }
 {
-    let first = records::record_at(file, 0, 0, 0, 0);
-    let Record::Counts(lines, count) = first else {
-        return refused(records::refusal_of(first));
-    };
-    let blank = blank_link();
-    let mut numbers = [0u16; 256];
-    let mut links = [blank; 256];
-    let mut previous: u16 = 0;
-    let mut rest = &file[8..];
-    let mut read: usize = 1;
-    loop {
-        let next = records::record_at(rest, read, count, lines, previous);
-        if bytes::wide_size(count) < read {
-            let Record::Sizes(a, b, c, d, e, f, g, h) = next else {
-                return refused(records::refusal_of(next));
-            };
-            let sizes = [a, b, c, d, e, f, g, h];
-            let table = Table {
-                lines,
-                count,
-                numbers,
-                links,
-                sizes,
-            };
-            return Reading { refused: 0, table };
-        }
-        let Record::Link(number, link) = next else {
-            return refused(records::refusal_of(next));
-        };
-        numbers[read - 1] = number;
-        links[read - 1] = link;
-        previous = number;
-        rest = &rest[18..];
-        read += 1;
-    }
+    walk::read(file)
 }
 
 // Writes the file of a table into the lent output, and answers its length; bytes behind it stay.
