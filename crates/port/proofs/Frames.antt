@@ -6,7 +6,7 @@ use mathlib.Core.List.{List, _∷_}
 use Prim.Native.Nat.{ℕ, suc, _+_, _≤_, _<_}
 use native.Mathlib.Numerals.{add-one}
 use lib.Dec.{eqb, leb}
-use borrow.Author.Tests.{eq-eqb, le-leb}
+use borrow.Author.Tests.{eq-eqb, ne-eqb, le-leb, lt-leb}
 use lib.ListN.{length, getD, drop, drop-of-length-le, List·getD-map}
 use lib.Seq.{drop-cons, getD-take}
 use Rattle.model.specs.Basics.{allHold, entries}
@@ -19,7 +19,7 @@ use Rattle.scheduler.specs.declared.Queue.{Queue}
 use Rattle.scheduler.specs.View.{frameOf, blankEntry, framesOf}
 use Rattle.scheduler.proofs.Shown.{entries-take}
 use Rattle.port.specs.Fitness.{frameFits}
-use Rattle.port.proofs.All.{same-truth}
+use Rattle.port.proofs.All.{same-truth, any-false}
 
 -- ---- a frame of a queue
 pub frame-shown : (q : Queue) (i : ℕ) → i < q .count → q .count ≤ length (q .frames) → getD (framesOf q) i blankFrame ≡ frameOf (getD (q .frames) i blankEntry)
@@ -28,17 +28,29 @@ frame-shown q i h k =
     List·getD-map frameOf (entries blankEntry (q .count) (q .frames)) i blankEntry
     ∙ ap frameOf (rw (entries-take blankEntry (q .count) (q .frames) k) (getD-take (q .count) (q .frames) i blankEntry h))
 
--- ---- the last test of a frame
-pub last-decides : (v : VirtualLink) (p clock low : ℕ) (f : Frame) → v .priority ≡ p → v .least ≤ f .length → f .length ≤ v .greatest → low ≤ f .arrival
-    → leb (f .arrival) clock ≡ frameFits v p clock low f
-last-decides v p clock low f a b c d =
-    same-truth _ _
-    (λ x.
-    true-all _ (
-      eq-eqb (v .priority) p a,
-      (le-leb (v .least) (f .length) b, (le-leb (f .length) (v .greatest) c, (le-leb low (f .arrival) d, (x, tt)))),
-    ))
-    (λ (x : frameFits v p clock low f ≡ true). all-true _ x .1 .1 .1 .1 .0)
+-- ---- the tests of a frame
+module _ (v : VirtualLink) (p clock low : ℕ) (f : Frame) where
+  pub other-priority : (v .priority ≡ p → ⊥) → false ≡ frameFits v p clock low f
+  other-priority h = any-false _ 0 (ne-eqb (v .priority) p h)
+
+  pub below-least : f .length < v .least → false ≡ frameFits v p clock low f
+  below-least h = any-false _ 1 (lt-leb (v .least) (f .length) h)
+
+  pub above-greatest : v .greatest < f .length → false ≡ frameFits v p clock low f
+  above-greatest h = any-false _ 2 (lt-leb (f .length) (v .greatest) h)
+
+  pub out-of-order : f .arrival < low → false ≡ frameFits v p clock low f
+  out-of-order h = any-false _ 3 (lt-leb low (f .arrival) h)
+
+  pub last-decides : v .priority ≡ p → v .least ≤ f .length → f .length ≤ v .greatest → low ≤ f .arrival → leb (f .arrival) clock ≡ frameFits v p clock low f
+  last-decides a b c d =
+      same-truth _ _
+      (λ x.
+      true-all _ (
+        eq-eqb (v .priority) p a,
+        (le-leb (v .least) (f .length) b, (le-leb (f .length) (v .greatest) c, (le-leb low (f .arrival) d, (x, tt)))),
+      ))
+      (λ (x : frameFits v p clock low f ≡ true). all-true _ x .1 .1 .1 .1 .0)
 
 -- ---- one frame more
 regroup : (a b c d e r : Bool) → ((a && (b && (c && true))) && (d && (e && (r && true)))) ≡ ((a && (b && (c && (d && (e && true))))) && r)

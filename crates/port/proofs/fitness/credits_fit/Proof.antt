@@ -1,7 +1,7 @@
 use borrow.Author.Needs.{needs}
 use mathlib.Core.Path.{_≡_, refl}
 use native.Mathlib.Omega.{arith}
-use Prim.Native.Nat.{_-_, _≤_}
+use Prim.Native.Nat.{_+_, _-_, _≤_}
 use mathlib.Core.Bool.{true}
 use Rattle.model.specs.Basics.{allTo}
 use Rattle.port.proofs.All.{all-none, all-more, all-stops, all-end}
@@ -47,11 +47,12 @@ element-copy-out-if1 : tie.Need-element-copy-out-if1 Inv-loop μ-loop
 element-copy-out-if1 c = omega arith
 
 returns : tie.Need-returns Inv-loop μ-loop
-returns c = let start = c .before .before .before .before .before .before in
+returns c =
+    let start = c .before .before .before .before .before .before in
     let loop = c .before .before .before .before .before .loop in
     let w = accounts-whole (start .args .t1) _ (start .good .0) in
     let s = sized (start .args .t2) _ (start .good .1 .0) in
-    all-stops _ _ (loop .i) (omega arith) (credit-high (start .args .t1) (start .args .t2) s (start .pre) (loop .i) (omega arith) (omega arith) _ (omega arith) (c .if1 .taken))
+    all-stops _ _ (loop .i) (omega arith) (credit-high (start .args .t1) (start .args .t2) s (start .pre) (loop .i) (omega arith) (omega arith) (c .before .before .bag .result + c .before .wide32 .result) (omega arith) (omega arith))
 
 add-i : tie.Need-add-i Inv-loop μ-loop
 add-i c = omega arith
@@ -60,11 +61,12 @@ loop-less : tie.Need-loop-less Inv-loop μ-loop
 loop-less c = omega arith
 
 loop-again : tie.Need-loop-again Inv-loop μ-loop
-loop-again c = let start = c .before .before .before .before .before .before in
+loop-again c =
+    let start = c .before .before .before .before .before .before in
     let loop = c .before .before .before .before .before .loop in
     let w = accounts-whole (start .args .t1) _ (start .good .0) in
     let s = sized (start .args .t2) _ (start .good .1 .0) in
-    (omega arith, refl, all-more _ (loop .i) (loop .inv .2) (credit-within (start .args .t1) (start .args .t2) s (start .pre) (loop .i) (omega arith) (omega arith) _ (omega arith) (c .if1 .left)))
+    (omega arith, refl, all-more _ (loop .i) (loop .inv .2) (credit-within (start .args .t1) (start .args .t2) s (start .pre) (loop .i) (omega arith) (omega arith) (c .before .before .bag .result + c .before .wide32 .result) (omega arith) (omega arith)))
 
 returns-2 : tie.Need-returns-2 Inv-loop μ-loop
 returns-2 c = all-end _ _ (c .before .loop .i) (omega arith) (omega arith) (c .before .loop .inv .2)

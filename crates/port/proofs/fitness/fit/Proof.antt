@@ -22,19 +22,22 @@ returns-3 : tie.Need-returns-3
 returns-3 c = queues-unfit (c .before .before .before .before .before .before .before .args .p) (sym (not-true (c .before .queues-fit .result) (c .if3 .taken)) ∙ c .before .queues-fit .ensures)
 
 lines-fit-requires : tie.Need-lines-fit-requires
-lines-fit-requires c κs = let k = counts-pass (c .before .before .before .before .before .before .before .before .args .p .table) (sym (c .before .before .before .before .before .before .check .ensures) ∙ c .before .before .before .before .before .if1 .left) in k .lines-most
+lines-fit-requires c κs =
+    let k = counts-pass (c .before .before .before .before .before .before .before .before .args .p .table) (sym (c .before .before .before .before .before .before .check .ensures) ∙ c .before .before .before .before .before .if1 .left) in k .lines-most
 
 returns-4 : tie.Need-returns-4
 returns-4 c = lines-unfit (c .before .before .before .before .before .before .before .before .before .before .args .p) (sym (not-true (c .before .lines-fit .result) (c .if4 .taken)) ∙ c .before .lines-fit .ensures)
 
 ticks-fit-requires : tie.Need-ticks-fit-requires
-ticks-fit-requires c κs = let k = counts-pass (c .before .before .before .before .before .before .before .before .before .before .before .args .p .table) (sym (c .before .before .before .before .before .before .before .before .before .check .ensures) ∙ c .before .before .before .before .before .before .before .before .if1 .left) in k .links-most
+ticks-fit-requires c κs =
+    let k = counts-pass (c .before .before .before .before .before .before .before .before .before .before .before .args .p .table) (sym (c .before .before .before .before .before .before .before .before .before .check .ensures) ∙ c .before .before .before .before .before .before .before .before .if1 .left) in k .links-most
 
 returns-5 : tie.Need-returns-5
 returns-5 c = ticks-unfit (c .before .before .before .before .before .before .before .before .before .before .before .before .before .args .p) (sym (not-true (c .before .ticks-fit .result) (c .if5 .taken)) ∙ c .before .ticks-fit .ensures)
 
 credits-fit-requires : tie.Need-credits-fit-requires
-credits-fit-requires c κs = let k = counts-pass (c .before .before .before .before .before .before .before .before .before .before .before .before .before .args .p .table) (sym (c .before .before .before .before .before .before .before .before .before .before .before .check .ensures) ∙ c .before .before .before .before .before .before .before .before .before .before .if1 .left) in k .links-most
+credits-fit-requires c κs =
+    let k = counts-pass (c .before .before .before .before .before .before .before .before .before .before .before .before .before .args .p .table) (sym (c .before .before .before .before .before .before .before .before .before .before .before .check .ensures) ∙ c .before .before .before .before .before .before .before .before .before .before .if1 .left) in k .links-most
 
 returns-6 : tie.Need-returns-6
 returns-6 c = credits-unfit (c .before .before .before .before .before .before .before .before .before .before .before .before .before .before .before .args .p) (sym (not-true (c .before .credits-fit .result) (c .if6 .taken)) ∙ c .before .credits-fit .ensures)

@@ -36,7 +36,8 @@ wide-requires : tie.Need-wide-requires Inv-loop μ-loop
 wide-requires c κs = search needs
 
 place-of-requires : tie.Need-place-of-requires Inv-loop μ-loop
-place-of-requires c κs = let start = c .before .before .before .before .before .before in
+place-of-requires c κs =
+    let start = c .before .before .before .before .before .before in
     let k = passing (start .args .t1) (sized (start .args .t1) _ (start .good .0)) (start .pre .0) in
     (k .some-link, k .links-most, k .rising)
 
@@ -47,19 +48,22 @@ enum-told : tie.Need-enum-told Inv-loop μ-loop
 enum-told c = search needs
 
 returns : tie.Need-returns Inv-loop μ-loop
-returns c = let start = c .before .before .before .before .before .before .before .before .before in
+returns c =
+    let start = c .before .before .before .before .before .before .before .before .before in
     let loop = c .before .before .before .before .before .before .before .before .loop in
     let s = sized (start .args .t1) _ (start .good .0) in
     let w = queue-whole (start .args .t2) _ (start .good .1 .0) in
     unnamed (start .args .t1) (start .args .t2) (start .args .priority) (start .args .clock) (loop .low) (loop .i) (loop .inv .2) s (start .pre .0) (omega arith) (omega arith) _ (c .before .before .before .wide .ensures .0) _ (c .before .before .place-of .ensures) (c .enum-told .given .1)
 
 mul-link : tie.Need-mul-link Inv-loop μ-loop
-mul-link c = let start = c .before .before .before .before .before .before .before .before .before .before in
+mul-link c =
+    let start = c .before .before .before .before .before .before .before .before .before .before in
     let k = passing (start .args .t1) (sized (start .args .t1) _ (start .good .0)) (start .pre .0) in
     omega (arith, c .before .before .before .place-of .ensures .below _ (c .before .place .given .1))
 
 element-copy-out-link : tie.Need-element-copy-out-link Inv-loop μ-loop
-element-copy-out-link c = let start = c .before .before .before .before .before .before .before .before .before .before in
+element-copy-out-link c =
+    let start = c .before .before .before .before .before .before .before .before .before .before in
     let k = passing (start .args .t1) (sized (start .args .t1) _ (start .good .0)) (start .pre .0) in
     omega (arith, c .before .before .before .place-of .ensures .below _ (c .before .place .given .1))
 
@@ -67,7 +71,8 @@ frame-fits-requires : tie.Need-frame-fits-requires Inv-loop μ-loop
 frame-fits-requires c κs = search needs
 
 returns-2 : tie.Need-returns-2 Inv-loop μ-loop
-returns-2 c = let start = c .before .before .before .before .before .before .before .before .before .before .before .before .before in
+returns-2 c =
+    let start = c .before .before .before .before .before .before .before .before .before .before .before .before .before in
     let loop = c .before .before .before .before .before .before .before .before .before .before .before .before .loop in
     let s = sized (start .args .t1) _ (start .good .0) in
     let w = queue-whole (start .args .t2) _ (start .good .1 .0) in
@@ -80,14 +85,16 @@ loop-less : tie.Need-loop-less Inv-loop μ-loop
 loop-less c = omega arith
 
 loop-again : tie.Need-loop-again Inv-loop μ-loop
-loop-again c = let start = c .before .before .before .before .before .before .before .before .before .before .before .before .before in
+loop-again c =
+    let start = c .before .before .before .before .before .before .before .before .before .before .before .before .before in
     let loop = c .before .before .before .before .before .before .before .before .before .before .before .before .loop in
     let s = sized (start .args .t1) _ (start .good .0) in
     let w = queue-whole (start .args .t2) _ (start .good .1 .0) in
     (omega arith, refl, goes-on (start .args .t1) (start .args .t2) (start .args .priority) (start .args .clock) (loop .low) (loop .i) (loop .inv .2) s (start .pre .0) (omega arith) (omega arith) _ (c .before .before .before .before .before .before .before .wide .ensures .0) _ (c .before .before .before .before .before .before .place-of .ensures) _ (c .before .before .before .before .place .given .1) _ (c .before .frame-fits .ensures) (not-false (c .before .frame-fits .result) (c .if1 .left)))
 
 returns-3 : tie.Need-returns-3 Inv-loop μ-loop
-returns-3 c = let start = c .before .before in
+returns-3 c =
+    let start = c .before .before in
     let loop = c .before .loop in
     all-passed (start .args .t1) (start .args .t2) (start .args .priority) (start .args .clock) (loop .low) (loop .i) (loop .inv .2) (omega arith)
 

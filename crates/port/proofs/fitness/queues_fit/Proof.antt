@@ -27,18 +27,20 @@ array-copy-out-q : tie.Need-array-copy-out-q Inv-loop μ-loop
 array-copy-out-q c = omega arith
 
 returns : tie.Need-returns Inv-loop μ-loop
-returns c = let start = c .before .before .before .before .before in
+returns c =
+    let start = c .before .before .before .before .before in
     let loop = c .before .before .before .before .loop in
-    all-stops _ 8 (loop .i) (omega arith) (too-many (start .args .t1) (start .args .clock) (start .args .t2) (loop .i) (c .if1 .taken))
+    all-stops _ 8 (loop .i) (omega arith) (too-many (start .args .t1) (start .args .clock) (start .args .t2) (loop .i) (omega arith))
 
 cast-frames-fit : tie.Need-cast-frames-fit Inv-loop μ-loop
 cast-frames-fit c = omega arith
 
 frames-fit-requires : tie.Need-frames-fit-requires Inv-loop μ-loop
-frames-fit-requires c κs = (c .before .before .before .before .before .pre, c .if1 .left)
+frames-fit-requires c κs = (c .before .before .before .before .before .pre, omega arith)
 
 returns-2 : tie.Need-returns-2 Inv-loop μ-loop
-returns-2 c = let start = c .before .before .before .before .before .before .before in
+returns-2 c =
+    let start = c .before .before .before .before .before .before .before in
     let loop = c .before .before .before .before .before .before .loop in
     all-stops _ 8 (loop .i) (omega arith) (frames-unfit (start .args .t1) (start .args .clock) (start .args .t2) (loop .i) (sym (not-true (c .before .frames-fit .result) (c .if2 .taken)) ∙ c .before .frames-fit .ensures))
 
@@ -46,10 +48,11 @@ wide32-requires : tie.Need-wide32-requires Inv-loop μ-loop
 wide32-requires c κs = search needs
 
 held-requires : tie.Need-held-requires Inv-loop μ-loop
-held-requires c κs = c .before .before .before .if1 .left
+held-requires c κs = omega arith
 
 returns-3 : tie.Need-returns-3 Inv-loop μ-loop
-returns-3 c = let start = c .before .before .before .before .before .before .before .before .before .before in
+returns-3 c =
+    let start = c .before .before .before .before .before .before .before .before .before .before in
     let loop = c .before .before .before .before .before .before .before .before .before .loop in
     all-stops _ 8 (loop .i) (omega arith) (held-above (start .args .t1) (start .args .clock) (start .args .t2) (loop .i) (omega arith))
 
@@ -60,9 +63,10 @@ element-copy-out-if4 : tie.Need-element-copy-out-if4 Inv-loop μ-loop
 element-copy-out-if4 c = omega arith
 
 returns-4 : tie.Need-returns-4 Inv-loop μ-loop
-returns-4 c = let start = c .before .before .before .before .before .before .before .before .before .before .before .before .before in
+returns-4 c =
+    let start = c .before .before .before .before .before .before .before .before .before .before .before .before .before in
     let loop = c .before .before .before .before .before .before .before .before .before .before .before .before .loop in
-    all-stops _ 8 (loop .i) (omega arith) (mark-above (start .args .t1) (start .args .clock) (start .args .t2) (loop .i) (c .if4 .taken))
+    all-stops _ 8 (loop .i) (omega arith) (mark-above (start .args .t1) (start .args .clock) (start .args .t2) (loop .i) (omega arith))
 
 add-i : tie.Need-add-i Inv-loop μ-loop
 add-i c = omega arith
@@ -71,12 +75,13 @@ loop-less : tie.Need-loop-less Inv-loop μ-loop
 loop-less c = omega arith
 
 loop-again : tie.Need-loop-again Inv-loop μ-loop
-loop-again c = let start = c .before .before .before .before .before .before .before .before .before .before .before .before .before in
+loop-again c =
+    let start = c .before .before .before .before .before .before .before .before .before .before .before .before .before in
     let loop = c .before .before .before .before .before .before .before .before .before .before .before .before .loop in (
       omega arith,
       all-more _ (loop .i) (loop .inv .1)
-          (queue-fits (start .args .t1) (start .args .clock) (start .args .t2) (loop .i) (c .before .before .before .before .before .before .before .before .if1 .left)
-          (sym (not-false (c .before .before .before .before .before .before .before .frames-fit .result) (c .before .before .before .before .before .before .if2 .left)) ∙ c .before .before .before .before .before .before .before .frames-fit .ensures) (omega arith) (c .if4 .left)),
+          (queue-fits (start .args .t1) (start .args .clock) (start .args .t2) (loop .i) (omega arith)
+          (sym (not-false (c .before .before .before .before .before .before .before .frames-fit .result) (c .before .before .before .before .before .before .if2 .left)) ∙ c .before .before .before .before .before .before .before .frames-fit .ensures) (omega arith) (omega arith)),
     )
 
 returns-5 : tie.Need-returns-5 Inv-loop μ-loop

@@ -16,9 +16,10 @@ returns : tie.Need-returns
 returns c = sends-nothing (c .before .before .args .clock) (c .before .before .args .t1) (ap senderOf (c .enum-told .given .1))
 
 returns-2 : tie.Need-returns-2
-returns-2 c = let start = c .before .before .before .before in
+returns-2 c =
+    let start = c .before .before .before .before in
     let told = c .before .before .sender .given in
-    no-queue (start .args .clock) (start .args .t1) (told .0 .0) (told .0 .1 .0) (ap senderOf (told .1)) (c .if1 .taken)
+    no-queue (start .args .clock) (start .args .t1) (told .0 .0) (told .0 .1 .0) (ap senderOf (told .1)) (omega arith)
 
 cast-i : tie.Need-cast-i
 cast-i c = search needs
@@ -30,22 +31,25 @@ array-copy-out-q : tie.Need-array-copy-out-q
 array-copy-out-q c = search needs
 
 returns-3 : tie.Need-returns-3
-returns-3 c = let start = c .before .before .before .before .before .before in
+returns-3 c =
+    let start = c .before .before .before .before .before .before in
     let told = c .before .before .before .before .sender .given in
-    no-head (start .args .clock) (start .args .t1) (told .0 .0) (told .0 .1 .0) (ap senderOf (told .1)) (c .if2 .taken)
+    no-head (start .args .clock) (start .args .t1) (told .0 .0) (told .0 .1 .0) (ap senderOf (told .1)) (omega arith)
 
 element-copy-out-f : tie.Need-element-copy-out-f
 element-copy-out-f c = search needs
 
 returns-4 : tie.Need-returns-4
-returns-4 c = let start = c .before .before .before .before .before .before .before .before .before in
+returns-4 c =
+    let start = c .before .before .before .before .before .before .before .before .before in
     let told = c .before .before .before .before .before .before .before .sender .given in
-    not-arrived (start .args .clock) (start .args .t1) (told .0 .0) (told .0 .1 .0) (ap senderOf (told .1)) (omega arith) (c .if3 .taken)
+    not-arrived (start .args .clock) (start .args .t1) (told .0 .0) (told .0 .1 .0) (ap senderOf (told .1)) (omega arith) (omega arith)
 
 returns-5 : tie.Need-returns-5
-returns-5 c = let start = c .before .before .before .before .before .before .before .before .before .before in
+returns-5 c =
+    let start = c .before .before .before .before .before .before .before .before .before .before in
     let told = c .before .before .before .before .before .before .before .before .sender .given in
-    not-started (start .args .clock) (start .args .t1) (told .0 .0) (told .0 .1 .0) (ap senderOf (told .1)) (c .if4 .taken)
+    not-started (start .args .clock) (start .args .t1) (told .0 .0) (told .0 .1 .0) (ap senderOf (told .1)) (omega arith)
 
 sub-result : tie.Need-sub-result
 sub-result c = search needs
@@ -54,9 +58,10 @@ wide-requires : tie.Need-wide-requires
 wide-requires c κs = search needs
 
 returns-6 : tie.Need-returns-6
-returns-6 c = let start = c .before .before .before .before .before .before .before .before .before .before .before in
+returns-6 c =
+    let start = c .before .before .before .before .before .before .before .before .before .before .before in
     let told = c .before .before .before .before .before .before .before .before .before .sender .given in
-    ends-later (start .args .clock) (start .args .t1) (told .0 .0) (told .0 .1 .0) (ap senderOf (told .1)) (omega arith) (c .before .before .before .before .before .before .before .if1 .left) (c .before .if4 .left) (c .before .before .if3 .left) (c .wide .result) (c .wide .ensures .0)
+    ends-later (start .args .clock) (start .args .t1) (told .0 .0) (told .0 .1 .0) (ap senderOf (told .1)) (omega arith) (omega arith) (omega arith) (omega arith) (c .wide .result) (c .wide .ensures .0)
 
 pub sender-fits-spec : {M : Type 1} → statement M
 sender-fits-spec =

@@ -26,10 +26,11 @@ element-copy-out-if1 : tie.Need-element-copy-out-if1 Inv-loop μ-loop
 element-copy-out-if1 c = omega arith
 
 returns : tie.Need-returns Inv-loop μ-loop
-returns c = let start = c .before .before .before in
+returns c =
+    let start = c .before .before .before in
     let loop = c .before .before .loop in
     let w = accounts-whole (start .args .t1) _ (start .good .0) in
-    all-stops _ _ (loop .i) (omega arith) (tick-late (start .args .t1) (start .args .count) (start .args .clock) (loop .i) (omega arith) (omega arith) (c .if1 .taken))
+    all-stops _ _ (loop .i) (omega arith) (tick-late (start .args .t1) (start .args .count) (start .args .clock) (loop .i) (omega arith) (omega arith) (omega arith))
 
 add-i : tie.Need-add-i Inv-loop μ-loop
 add-i c = omega arith
@@ -38,12 +39,13 @@ loop-less : tie.Need-loop-less Inv-loop μ-loop
 loop-less c = omega arith
 
 loop-again : tie.Need-loop-again Inv-loop μ-loop
-loop-again c = let start = c .before .before .before in
+loop-again c =
+    let start = c .before .before .before in
     let loop = c .before .before .loop in
     let w = accounts-whole (start .args .t1) _ (start .good .0) in (
       omega arith,
       refl,
-      all-more _ (loop .i) (loop .inv .2) (tick-past (start .args .t1) (start .args .count) (start .args .clock) (loop .i) (omega arith) (omega arith) (c .if1 .left)),
+      all-more _ (loop .i) (loop .inv .2) (tick-past (start .args .t1) (start .args .count) (start .args .clock) (loop .i) (omega arith) (omega arith) (omega arith)),
     )
 
 returns-2 : tie.Need-returns-2 Inv-loop μ-loop

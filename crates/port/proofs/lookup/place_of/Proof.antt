@@ -38,7 +38,8 @@ loop-less : tie.Need-loop-less Inv-loop μ-loop
 loop-less c = omega arith
 
 loop-again : tie.Need-loop-again Inv-loop μ-loop
-loop-again c = let start = c .before .before .before .before .before in
+loop-again c =
+    let start = c .before .before .before .before .before in
     let loop = c .before .before .before .before .loop in
     ⊎-elim
     (λ w. rw (w .1) (upper-half (start .pre .2) (loop .inv) _ refl (omega arith) (omega arith)))
@@ -55,11 +56,13 @@ wide-requires-2 : tie.Need-wide-requires-2 Inv-loop μ-loop
 wide-requires-2 c κs = search needs
 
 returns : tie.Need-returns Inv-loop μ-loop
-returns c = let loop = c .before .before .before .before .loop in
+returns c =
+    let loop = c .before .before .before .before .loop in
     found-here (loop .inv) (omega arith) (omega arith)
 
 returns-2 : tie.Need-returns-2 Inv-loop μ-loop
-returns-2 c = let loop = c .before .before .before .before .loop in
+returns-2 c =
+    let loop = c .before .before .before .before .loop in
     found-nowhere (loop .inv) (omega arith) (λ e. c .if2 .left (c .before .wide2 .ensures .0 ∙ e))
 
 pub place-of-spec : {M : Type 1} → statement M

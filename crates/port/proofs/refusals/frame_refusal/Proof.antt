@@ -21,17 +21,20 @@ wide-requires : tie.Need-wide-requires
 wide-requires c κs = search needs
 
 returns-2 : tie.Need-returns-2
-returns-2 c = let start = c .before .before .before .before .before in
+returns-2 c =
+    let start = c .before .before .before .before .before in
     let told = c .before .before .before .report .given in
     λ t s l. no-line t s l (told .0 .0) (told .0 .1 .0) (told .0 .1 .1 .0) (told .0 .1 .1 .1 .0) (ap reportOf (told .1)) (omega arith)
 
 returns-3 : tie.Need-returns-3
-returns-3 c = let start = c .before .before .before .before .before .before in
+returns-3 c =
+    let start = c .before .before .before .before .before .before in
     let told = c .before .before .before .before .report .given in
     λ t s l. too-short t s l (told .0 .0) (told .0 .1 .0) (told .0 .1 .1 .0) (told .0 .1 .1 .1 .0) (ap reportOf (told .1)) (omega arith) (omega arith)
 
 returns-4 : tie.Need-returns-4
-returns-4 c = let start = c .before .before .before .before .before .before .before in
+returns-4 c =
+    let start = c .before .before .before .before .before .before .before in
     let told = c .before .before .before .before .before .report .given in
     λ t s l. too-long t s l (told .0 .0) (told .0 .1 .0) (told .0 .1 .1 .0) (told .0 .1 .1 .1 .0) (ap reportOf (told .1)) (omega arith) (omega arith)
 
@@ -42,7 +45,8 @@ array-read-if4 : tie.Need-array-read-if4
 array-read-if4 c = search needs
 
 add-if4 : tie.Need-add-if4
-add-if4 c = let start = c .before .before .before .before .before .before .before in
+add-if4 c =
+    let start = c .before .before .before .before .before .before .before in
     let told = c .before .before .before .before .before .report .given in
     let w : length (start .args .t1) ≡ 24 = start .good .0 .1 .0 .1 in
     omega (
@@ -52,16 +56,18 @@ add-if4 c = let start = c .before .before .before .before .before .before .befor
     )
 
 returns-5 : tie.Need-returns-5
-returns-5 c = let start = c .before .before .before .before .before .before .before .before in
+returns-5 c =
+    let start = c .before .before .before .before .before .before .before .before in
     let told = c .before .before .before .before .before .before .report .given in
     let w : length (start .args .t1) ≡ 24 = start .good .0 .1 .0 .1 in
-    λ t s l. overlaps t s l (told .0 .0) (told .0 .1 .0) (told .0 .1 .1 .0) (told .0 .1 .1 .1 .0) (ap reportOf (told .1)) (omega arith) (omega arith) (omega arith) (omega arith) (c .if4 .taken)
+    λ t s l. overlaps t s l (told .0 .0) (told .0 .1 .0) (told .0 .1 .1 .0) (told .0 .1 .1 .1 .0) (ap reportOf (told .1)) (omega arith) (omega arith) (omega arith) (omega arith) (omega arith)
 
 returns-6 : tie.Need-returns-6
-returns-6 c = let start = c .before .before .before .before .before .before .before .before in
+returns-6 c =
+    let start = c .before .before .before .before .before .before .before .before in
     let told = c .before .before .before .before .before .before .report .given in
     let w : length (start .args .t1) ≡ 24 = start .good .0 .1 .0 .1 in
-    λ t s l. in-order t s l (told .0 .0) (told .0 .1 .0) (told .0 .1 .1 .0) (told .0 .1 .1 .1 .0) (ap reportOf (told .1)) (omega arith) (omega arith) (omega arith) (omega arith) (c .if4 .left)
+    λ t s l. in-order t s l (told .0 .0) (told .0 .1 .0) (told .0 .1 .1 .0) (told .0 .1 .1 .1 .0) (ap reportOf (told .1)) (omega arith) (omega arith) (omega arith) (omega arith) (omega arith)
 
 pub frame-refusal-spec : {M : Type 1} → statement M
 frame-refusal-spec =

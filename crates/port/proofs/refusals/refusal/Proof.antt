@@ -14,45 +14,53 @@ fit-requires : tie.Need-fit-requires
 fit-requires c κs = search needs
 
 returns : tie.Need-returns
-returns c = let a = c .before .before .args in
+returns c =
+    let a = c .before .before .args in
     not-fit (tableOf (a .p)) (portOf (a .p)) (reportOf (a .report)) (a .room) (sym (not-true (c .before .fit .result) (c .if1 .taken)) ∙ c .before .fit .ensures)
 
 tick-of-requires : tie.Need-tick-of-requires
 tick-of-requires c κs = search needs
 
 returns-2 : tie.Need-returns-2
-returns-2 c = let a = c .before .before .before .before .args in
+returns-2 c =
+    let a = c .before .before .before .before .args in
     too-late (tableOf (a .p)) (portOf (a .p)) (reportOf (a .report)) (a .room) (sym (not-false (c .before .before .before .fit .result) (c .before .before .if1 .left)) ∙ c .before .before .before .fit .ensures) (omega arith)
 
 returns-3 : tie.Need-returns-3
 unfolding portOf
-returns-3 c = let a = c .before .before .before .before .before .before .args in
+returns-3 c =
+    let a = c .before .before .before .before .before .before .args in
     too-early (tableOf (a .p)) (portOf (a .p)) (reportOf (a .report)) (a .room) (sym (not-false (c .before .before .before .before .before .fit .result) (c .before .before .before .before .if1 .left)) ∙ c .before .before .before .before .before .fit .ensures) (omega arith) (omega arith)
 
 frame-refusal-requires : tie.Need-frame-refusal-requires
-frame-refusal-requires c κs = let a = c .before .before .before .before .before .before .before .before .args in
+frame-refusal-requires c κs =
+    let a = c .before .before .before .before .before .before .before .before .args in
     clocked (a .p) (fit-is _ _ (sym (sym (not-false (c .before .before .before .before .before .before .before .fit .result) (c .before .before .before .before .before .before .if1 .left)) ∙ c .before .before .before .before .before .before .before .fit .ensures)))
 
 returns-4 : tie.Need-returns-4
 unfolding portOf
-returns-4 c = let a = c .before .before .before .before .before .before .before .before .before .before .args in
+returns-4 c =
+    let a = c .before .before .before .before .before .before .before .before .before .before .args in
     frame-refused (tableOf (a .p)) (portOf (a .p)) (reportOf (a .report)) (a .room) (sym (not-false (c .before .before .before .before .before .before .before .before .before .fit .result) (c .before .before .before .before .before .before .before .before .if1 .left)) ∙ c .before .before .before .before .before .before .before .before .before .fit .ensures) (omega arith) (omega arith) (c .before .frame-refusal .ensures (tableOf (a .p)) (portOf (a .p)) (lines-shown (a .p))) (c .if4 .taken)
 
 frames-held-requires : tie.Need-frames-held-requires
 frames-held-requires c κs = search needs
 
 mul-if5 : tie.Need-mul-if5
-mul-if5 c = let a = c .before .before .before .before .before .before .before .before .before .before .before .before .args in
+mul-if5 c =
+    let a = c .before .before .before .before .before .before .before .before .before .before .before .before .args in
     omega (arith, few-held (a .p) (fit-is _ _ (sym (sym (not-false (c .before .before .before .before .before .before .before .before .before .before .before .fit .result) (c .before .before .before .before .before .before .before .before .before .before .if1 .left)) ∙ c .before .before .before .before .before .before .before .before .before .before .before .fit .ensures))) (whole (a .p) _ (c .before .before .before .before .before .before .before .before .before .before .before .before .good .0) .queues))
 
 returns-5 : tie.Need-returns-5
 unfolding portOf
-returns-5 c = let a = c .before .before .before .before .before .before .before .before .before .before .before .before .before .args in
+returns-5 c =
+    let a = c .before .before .before .before .before .before .before .before .before .before .before .before .before .args in
     no-room (tableOf (a .p)) (portOf (a .p)) (reportOf (a .report)) (a .room) (sym (not-false (c .before .before .before .before .before .before .before .before .before .before .before .before .fit .result) (c .before .before .before .before .before .before .before .before .before .before .before .if1 .left)) ∙ c .before .before .before .before .before .before .before .before .before .before .before .before .fit .ensures) (omega arith) (omega arith) (c .before .before .before .before .frame-refusal .ensures (tableOf (a .p)) (portOf (a .p)) (lines-shown (a .p))) (c .before .before .before .if4 .left) (omega arith)
 
 returns-6 : tie.Need-returns-6
 unfolding portOf
-returns-6 c = let a = c .before .before .before .before .before .before .before .before .before .before .before .before .before .args in
+returns-6 c =
+    let a = c .before .before .before .before .before .before .before .before .before .before .before .before .before .args in
     accepts (tableOf (a .p)) (portOf (a .p)) (reportOf (a .report)) (a .room) (sym (not-false (c .before .before .before .before .before .before .before .before .before .before .before .before .fit .result) (c .before .before .before .before .before .before .before .before .before .before .before .if1 .left)) ∙ c .before .before .before .before .before .before .before .before .before .before .before .before .fit .ensures) (omega arith) (omega arith) (c .before .before .before .before .frame-refusal .ensures (tableOf (a .p)) (portOf (a .p)) (lines-shown (a .p))) (c .before .before .before .if4 .left) (omega arith)
 
 pub refusal-spec : {M : Type 1} → statement M
