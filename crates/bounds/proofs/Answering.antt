@@ -53,6 +53,7 @@ module _ (t : TableRecord) (vs : List Val) (good : Is (row the-type) t vs) (e : 
       record {
         line = omega (arith, v .line-below);
         priority = v .priority-most;
+        code = v .code-most;
         least = omega (arith, v .least-from, v .least-greatest);
         greatest = v .greatest-most;
         jitter = v .jitter-most;

@@ -1,8 +1,8 @@
 -- Numbers of a link and a table that meet no check.
 use mathlib.Core.Path.{_≡_, refl}
-use mathlib.Core.Bool.{Bool, true, false, _&&_}
-use Prim.Native.Nat.{ℕ, zero, suc, _+_, _*_, _/_, _≤_, _<_}
-use native.Mathlib.Nat.{div-lt-iff-lt-mul, mul-le-mul-left}
+use mathlib.Core.Bool.{Bool, true, false}
+use Prim.Native.Nat.{ℕ, zero, suc, _+_, _*_, _/_, _^_, _≤_, _<_}
+use native.Mathlib.Nat.{div-lt-iff-lt-mul, div-div-eq-div-mul, mul-le-mul-left}
 use native.Mathlib.Omega.{arith}
 use lib.Dec.{leb}
 use borrow.Author.Tests.{le-leb, lt-leb}
@@ -36,17 +36,29 @@ bag-fits (suc (suc (suc (suc (suc (suc (suc (suc n)))))))) = record { least = om
 pub div-few : (x b : ℕ) → 12_500 ≤ b → x ≤ 190_536 → x / b ≤ 15
 div-few x b h k = let z : x / b < 16 = div-lt-iff-lt-mul {k = b} {x = x} {y = 16} (omega arith) .1 (omega arith) in omega arith
 
--- with the numbers as the code has them
-module _ (l : LinkFields) (w b j : ℕ) (q : b ≡ bagOf (l .code)) (e : j ≡ l .jitter) where
-  pub bag-fit : BagFits b
-  bag-fit = rw q (bag-fits (l .code))
+bag-power : (code : ℕ) → code ≤ 7 → bagOf code ≡ 12_500 * 2 ^ code
+unfolding bagOf
+bag-power zero h = refl
+bag-power (suc zero) h = refl
+bag-power (suc (suc zero)) h = refl
+bag-power (suc (suc (suc zero))) h = refl
+bag-power (suc (suc (suc (suc zero)))) h = refl
+bag-power (suc (suc (suc (suc (suc zero))))) h = refl
+bag-power (suc (suc (suc (suc (suc (suc zero)))))) h = refl
+bag-power (suc (suc (suc (suc (suc (suc (suc zero))))))) h = refl
+bag-power (suc (suc (suc (suc (suc (suc (suc (suc n)))))))) h = absurd (omega arith)
 
-  pub frames-few : FitLink l → w ≤ 65_536 → (w + j) / b ≤ 15
-  frames-few f h = div-few (w + j) b (bag-fit .least) (omega (arith, f .jitter))
+-- with the jitter as the code has it
+module _ (l : LinkFields) (f : FitLink l) (w j : ℕ) (e : j ≡ l .jitter) where
+  shift-divides : (w + j) / 12_500 / 2 ^ l .code ≡ (w + j) / bagOf (l .code)
+  shift-divides = rw (bag-power (l .code) (f .code)) (div-div-eq-div-mul (w + j) 12_500 (2 ^ l .code))
 
-  pub frames-are : (n : ℕ) → 1 + (w + j) / b ≡ frameCurve (linkOf n l) w
+  pub frames-few : w ≤ 65_536 → (w + j) / 12_500 / 2 ^ l .code ≤ 15
+  frames-few h = rw shift-divides (div-few (w + j) (bagOf (l .code)) (bag-fits (l .code) .least) (omega (arith, f .jitter)))
+
+  pub frames-are : (n : ℕ) → 1 + (w + j) / 12_500 / 2 ^ l .code ≡ frameCurve (linkOf n l) w
   unfolding frameCurve
-  frames-are n = rw (q, e)
+  frames-are n = rw (shift-divides, e)
 
 pub product-few : (x n : ℕ) → x ≤ 1_538 → n ≤ 16 → x * n ≤ 24_608
 product-few x n h k = omega (arith, mul-le-mul-left x k)
@@ -56,23 +68,15 @@ unfolding provided
 provided-few true x n h = h
 provided-few false x n h = omega arith
 
--- ---- a weight by the tests of the code
-module _ (low high p x : ℕ) where
-  pub weight-low : p < low → 0 ≡ provided (within low high p) x
-  unfolding within provided
-  weight-low h = rw (lt-leb low p h)
+-- ---- a member by the tests of the code
+module _ (low high p : ℕ) where
+  pub member-low : p < low → false ≡ within low high p
+  unfolding within
+  member-low h = rw (lt-leb low p h)
 
-  pub weight-high : high < p → 0 ≡ provided (within low high p) x
-  unfolding within provided
-  weight-high h = rw (lt-leb p high h) (go (leb low p))
-    where
-      go : (b : Bool) → 0 ≡ provided (b && false) x
-      go true = refl
-      go false = refl
-
-  pub weight-in : low ≤ p → p ≤ high → x ≡ provided (within low high p) x
-  unfolding within provided
-  weight-in h k = rw (le-leb low p h, le-leb p high k)
+  pub member-from : low ≤ p → leb p high ≡ within low high p
+  unfolding within
+  member-from h = rw (le-leb low p h)
 
 -- ---- the links of the view
 module _ (t : TableRecord) (f : Fit t) where

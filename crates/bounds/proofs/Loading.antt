@@ -19,7 +19,7 @@ use Rattle.table.specs.View.{linkOf, blankFields, linksOf}
 use Rattle.table.proofs.Shape.{count-shown}
 use Rattle.bounds.specs.declared.arrivals.Loads.{Loads}
 use Rattle.bounds.specs.Fit.{Fit}
-use Rattle.bounds.specs.Loads.{within, between, less, lineSum, lineTop, Counted, Loaded, flow}
+use Rattle.bounds.specs.Loads.{within, between, less, lineSum, lineTop, Loaded, flow}
 use Rattle.bounds.proofs.Sums.{sumTo-eq, sum-more, greatest-more, line-is}
 use Rattle.bounds.proofs.Fitting.{bag-fits, div-few, product-few, provided-few, view-count, view-link}
 
@@ -44,6 +44,10 @@ on-other s v ℓ x h = rw (ne-eqb (v .line) ℓ (λ e. h (sym e))) (go (s v))
     go true = refl
     go false = refl
 
+on-none : (s : VirtualLink → Bool) (v : VirtualLink) (ℓ x : ℕ) → s v ≡ false → provided (onLine s ℓ v) x ≡ 0
+unfolding onLine provided
+on-none s v ℓ x q = rw q
+
 abbrev pub loadsOf : List ℕ → List ℕ → Loads
 loadsOf sums tops = record { sums = sums; tops = tops }
 
@@ -56,6 +60,22 @@ module _ (weight : ℕ → ℕ) (s : VirtualLink → Bool) (links : List Virtual
     tops24 = length-replicate {A = ℕ} 24 0;
     sum = λ ℓ h. getD-replicate {A = ℕ} 24 ℓ 0 0 h;
     top = λ ℓ h. getD-replicate {A = ℕ} 24 ℓ 0 0 h;
+  }
+
+  -- a link that is no member
+  pub load-other : (sums tops : List ℕ) (i : ℕ) → i < length links → Loaded weight s (take i links) w (loadsOf sums tops) → (v : VirtualLink) → linkAt links i ≡ v → s v ≡ false
+      → Loaded weight s (take (i + 1) links) w (loadsOf sums tops)
+  load-other sums tops i h l v e q = record {
+    sums24 = l .sums24;
+    tops24 = l .tops24;
+    sum =
+        λ ℓ k.
+        (let m = rw e at (sum-more (onLine s ℓ) (λ u. weight (u .greatest) * frameCurve u w) links i h) in
+        omega (arith, on-none s v ℓ (weight (v .greatest) * frameCurve v w) q, l .sum ℓ k));
+    top =
+        λ ℓ k.
+        (let m = rw e at (greatest-more (onLine s ℓ) (λ u. weight (u .greatest)) links i h) in
+        omega (arith, on-none s v ℓ (weight (v .greatest)) q, l .top ℓ k));
   }
 
   module _ (sums tops : List ℕ) (i : ℕ) (h : i < length links) (l : Loaded weight s (take i links) w (loadsOf sums tops)) (v : VirtualLink) (e : linkAt links i ≡ v)
@@ -154,13 +174,19 @@ module _ (t : TableRecord) (f : Fit t) (s : VirtualLink → Bool) (cut w : ℕ) 
 -- one link of the table more
 module _ (t : TableRecord) (f : Fit t) (low high cut w : ℕ) (sums tops : List ℕ) (i : ℕ) (h : i < t .count)
     (l : Loaded (less cut) (between low high) (take i (linksOf t)) w (loadsOf sums tops)) where
-  pub load-step : (x n top : ℕ) → x ≡ provided (within low high (getD (t .links) i blankFields .priority)) (less cut (getD (t .links) i blankFields .greatest))
-      → n ≡ frameCurve (linkAt (linksOf t) i) w → top ≡ max (getD tops (getD (t .links) i blankFields .line) 0) x
+  pub load-skip : false ≡ within low high (getD (t .links) i blankFields .priority) → Loaded (less cut) (between low high) (take (i + 1) (linksOf t)) w (loadsOf sums tops)
+  load-skip q =
+      load-other (less cut) (between low high) (linksOf t) w sums tops i (view-count t f i h) l
+      (linkOf (getD (t .numbers) i 0) (getD (t .links) i blankFields)) (f .shown i h) (sym q)
+
+  pub load-step : true ≡ within low high (getD (t .links) i blankFields .priority) → (x n top : ℕ) → x ≡ less cut (getD (t .links) i blankFields .greatest)
+      → ((k : ℕ) → n ≡ frameCurve (linkOf k (getD (t .links) i blankFields)) w) → top ≡ max (getD tops (getD (t .links) i blankFields .line) 0) x
       → Loaded (less cut) (between low high) (take (i + 1) (linksOf t)) w
       (loadsOf (set sums (getD (t .links) i blankFields .line) (getD sums (getD (t .links) i blankFields .line) 0 + x * n)) (set tops (getD (t .links) i blankFields .line) top))
-  load-step x n top ex en et =
+  unfolding provided
+  load-step q x n top ex en et =
       load-more (less cut) (between low high) (linksOf t) w sums tops i (view-count t f i h) l
-      (linkOf (getD (t .numbers) i 0) (getD (t .links) i blankFields)) (f .shown i h) (f .each i h .line) x n top ex (rw (f .shown i h) at en) et
+      (linkOf (getD (t .numbers) i 0) (getD (t .links) i blankFields)) (f .shown i h) (f .each i h .line) x n top (rw (← q) ex) (en (getD (t .numbers) i 0)) et
 
   -- the sum that is added to
   pub sum-fits : w ≤ 65_536 → getD sums (getD (t .links) i blankFields .line) 0 ≤ 24_608 * 256
@@ -173,41 +199,20 @@ pub longest-none : (s : VirtualLink → Bool) (links : List VirtualLink) → 0 �
 unfolding greatestOver
 longest-none s links = refl
 
-less-none : (n : ℕ) → less 0 n ≡ n
-less-none n = omega arith
+module _ (t : TableRecord) (f : Fit t) (low high i : ℕ) (h : i < t .count) (top : ℕ) (p : top ≡ greatestOver (between low high) (λ v. v .greatest) (take i (linksOf t))) where
+  more : greatestOver (between low high) (λ v. v .greatest) (take (i + 1) (linksOf t))
+      ≡ max (greatestOver (between low high) (λ v. v .greatest) (take i (linksOf t))) (provided (within low high (getD (t .links) i blankFields .priority)) (getD (t .links) i blankFields .greatest))
+  more = rw (f .shown i h) at (greatest-more (between low high) (λ v. v .greatest) (linksOf t) i (view-count t f i h))
 
-pub longest-step : (t : TableRecord) (f : Fit t) (low high i : ℕ) → i < t .count → (top x r : ℕ) → top ≡ greatestOver (between low high) (λ v. v .greatest) (take i (linksOf t))
-    → x ≡ provided (within low high (getD (t .links) i blankFields .priority)) (less 0 (getD (t .links) i blankFields .greatest)) → r ≡ max top x
-    → r ≡ greatestOver (between low high) (λ v. v .greatest) (take (i + 1) (linksOf t))
-longest-step t f low high i h top x r p q e =
-    let m = rw (f .shown i h) at (greatest-more (between low high) (λ v. v .greatest) (linksOf t) i (view-count t f i h)) in
-    let y = rw (less-none (getD (t .links) i blankFields .greatest)) at q in
-    omega arith
+  pub longest-skip : false ≡ within low high (getD (t .links) i blankFields .priority) → top ≡ greatestOver (between low high) (λ v. v .greatest) (take (i + 1) (linksOf t))
+  unfolding provided
+  longest-skip q = let m = rw (← q) at more in omega arith
+
+  pub longest-step : true ≡ within low high (getD (t .links) i blankFields .priority) → (x r : ℕ) → x ≡ getD (t .links) i blankFields .greatest → r ≡ max top x
+      → r ≡ greatestOver (between low high) (λ v. v .greatest) (take (i + 1) (linksOf t))
+  unfolding provided
+  longest-step q x r e k = let m = rw (← q) at more in omega arith
 
 pub longest-all : (t : TableRecord) (s : VirtualLink → Bool) (i top : ℕ) → i ≡ t .count → top ≡ greatestOver s (λ v. v .greatest) (take i (linksOf t))
     → top ≡ greatestOver s (λ v. v .greatest) (linksOf t)
 longest-all t s i top e p = rw (e, whole t) at p
-
--- ---- the number of frames of each link
-pub record CountedTo (t : TableRecord) (w : ℕ) (counts : List ℕ) (n : ℕ) : Type 0 where
-  pub whole : length counts ≡ 256
-  pub each : (k : ℕ) → k < n → getD counts k 0 ≡ frameCurve (linkAt (linksOf t) k) w
-  pub few : (k : ℕ) → k < n → getD counts k 0 ≤ 16
-
-pub counted-none : (t : TableRecord) (w : ℕ) → CountedTo t w (replicate 256 0) 0
-counted-none t w = record { whole = length-replicate {A = ℕ} 256 0; each = λ k l. absurd (omega arith); few = λ k l. absurd (omega arith) }
-
-pub counted-more : (t : TableRecord) (f : Fit t) (w : ℕ) (counts : List ℕ) (i : ℕ) → i < t .count → CountedTo t w counts i → (n : ℕ)
-    → ((k : ℕ) → n ≡ frameCurve (linkOf k (getD (t .links) i blankFields)) w) → n ≤ 16 → CountedTo t w (set counts i n) (i + 1)
-counted-more t f w counts i h c n e l = record { whole = rw length-set (c .whole); each = λ k x. at k x (ℕ-discrete k i); few = λ k x. few-at k x (ℕ-discrete k i) }
-  where
-    at : (k : ℕ) → k < i + 1 → Dec (k ≡ i) → getD (set counts i n) k 0 ≡ frameCurve (linkAt (linksOf t) k) w
-    at k x (yes q) = rw (q, getD-set-same counts i n 0 (omega (arith, c .whole, f .count)), f .shown i h) (e (getD (t .numbers) i 0))
-    at k x (no q) = rw (getD-set-other counts i k n 0 q) (c .each k (omega arith))
-
-    few-at : (k : ℕ) → k < i + 1 → Dec (k ≡ i) → getD (set counts i n) k 0 ≤ 16
-    few-at k x (yes q) = rw (q, getD-set-same counts i n 0 (omega (arith, c .whole, f .count))) l
-    few-at k x (no q) = rw (getD-set-other counts i k n 0 q) (c .few k (omega arith))
-
-pub counted-all : (t : TableRecord) (w : ℕ) (counts : List ℕ) (i : ℕ) → w ≤ 65_536 → i ≡ t .count → CountedTo t w counts i → Counted t (record { ticks = w; frames = counts })
-counted-all t w counts i h e c = record { ticks = h; each = λ k l. c .each k (omega arith); few = λ k l. c .few k (omega arith) }

@@ -40,18 +40,18 @@ module _ (v : VirtualLink) (w : ℕ) where
       omega arith
 
 -- with the numbers as the code has them
-module _ (l : LinkFields) (high n b j : ℕ) (q : b ≡ bagOf (l .code)) (e : j ≡ l .jitter) where
-  past-window : (number w : ℕ) → n ≡ frameCurve (linkOf number l) w → w + j < n * b
-  past-window number w p = rw (p, q, e) (past (linkOf number l) w)
+module _ (l : LinkFields) (w n b j : ℕ) (p : (number : ℕ) → n ≡ frameCurve (linkOf number l) w) (q : b ≡ bagOf (l .code)) (e : j ≡ l .jitter) where
+  pub past-window : w + j < n * b
+  past-window = rw (p 0, q, e) (past (linkOf 0 l) w)
 
-  pub link-steady : LinkSteady l high n (n * b - j - 1)
-  link-steady = record {
-    past = λ number w h p. omega (arith, past-window number w p);
+  pub link-steady : (high : ℕ) → LinkSteady l high w (n * b - j - 1)
+  link-steady high = record {
+    past = omega (arith, past-window);
     stays =
-        λ number w p t k x y.
-        (let m = past-window number w p in
+        λ number t k x y.
+        (let m = past-window in
         let z : k + l .jitter < n * b = omega arith in
-        same-frames (linkOf number l) w k x (rw (← p, ← q) z));
+        same-frames (linkOf number l) w k x (rw (← p number, ← q) z));
   }
 
 pub product-fits : (n b : ℕ) → n ≤ 16 → b ≤ 1_600_000 → n * b ≤ 25_600_000
@@ -66,8 +66,8 @@ stays-out high v w e h q =
     go true q = q
     go false q = q
 
-pub link-out : (l : LinkFields) (high n : ℕ) → high < l .priority → LinkSteady l high n 65_535
-link-out l high n h = record { past = λ number w k p. omega arith; stays = λ number w p. stays-out high (linkOf number l) w 65_535 h }
+pub link-out : (l : LinkFields) (high w : ℕ) → w < 65_536 → high < l .priority → LinkSteady l high w 65_535
+link-out l high w k h = record { past = omega arith; stays = λ number. stays-out high (linkOf number l) w 65_535 h }
 
 -- ---- all links
 module _ (s : VirtualLink → Bool) where
@@ -85,23 +85,10 @@ module _ (s : VirtualLink → Bool) where
       go (no x) = stays-less (linkAt links j) w e r (omega arith) (t j (omega arith))
 
 -- one link of the table more
-module _ (t : TableRecord) (f : Fit t) (i : ℕ) (h : i < t .count) (w n : ℕ) (e : n ≡ frameCurve (linkAt (linksOf t) i) w) where
-  shown : n ≡ frameCurve (linkOf (getD (t .numbers) i 0) (getD (t .links) i blankFields)) w
-  shown = rw (f .shown i h) at e
-
-  pub jitter-below : getD (t .links) i blankFields .jitter < n * bagOf (getD (t .links) i blankFields .code)
-  jitter-below =
-      let v = linkOf (getD (t .numbers) i 0) (getD (t .links) i blankFields) in
-      let z : w + v .jitter < n * bagOf (v .code) = rw shown (past v w) in
-      omega arith
-
-  module _ (high d : ℕ) (s : LinkSteady (getD (t .links) i blankFields) high n d) where
-    pub steady-past : w < 65_536 → w ≤ d
-    steady-past l = s .past (getD (t .numbers) i 0) w l shown
-
-    pub steady-step : (last r : ℕ) → Steady (between 0 high) (linksOf t) i w last → r ≡ min last d → Steady (between 0 high) (linksOf t) (i + 1) w r
-    steady-step last r a q =
-        steady-more (between 0 high) (linksOf t) i w last d r a (rw (f .shown i h) (s .stays (getD (t .numbers) i 0) w shown)) q
+pub steady-step : (t : TableRecord) (f : Fit t) (i : ℕ) → i < t .count → (w high d : ℕ) → LinkSteady (getD (t .links) i blankFields) high w d → (last r : ℕ)
+    → Steady (between 0 high) (linksOf t) i w last → r ≡ min last d → Steady (between 0 high) (linksOf t) (i + 1) w r
+steady-step t f i h w high d s last r a q =
+    steady-more (between 0 high) (linksOf t) i w last d r a (rw (f .shown i h) (s .stays (getD (t .numbers) i 0))) q
 
 -- the loads of a part of the set stay
 module _ (weight : ℕ → ℕ) (s part : VirtualLink → Bool) (sub : (v : VirtualLink) → part v ≡ true → s v ≡ true) (links : List VirtualLink) (w e : ℕ)

@@ -10,6 +10,7 @@ use Rattle.table.specs.View.{linkOf, blankFields, linksOf}
 pub record FitLink (v : LinkFields) : Type 0 where
   pub line : v .line < 24
   pub priority : v .priority ≤ 7
+  pub code : v .code ≤ 7
   pub least : 84 ≤ v .greatest
   pub greatest : v .greatest ≤ 1_538
   pub jitter : v .jitter ≤ 125_000

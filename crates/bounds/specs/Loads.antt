@@ -2,15 +2,12 @@
 use mathlib.Core.Path.{_≡_}
 use mathlib.Core.Bool.{Bool, _&&_}
 use mathlib.Core.List.{List}
-use Prim.Native.Nat.{ℕ, _+_, _-_, _*_, _≤_, _<_, min}
+use Prim.Native.Nat.{ℕ, _+_, _-_, _*_, _<_, min}
 use lib.Dec.{leb}
 use lib.ListN.{length, getD}
 use Rattle.model.specs.Basics.{sumTo}
-use Rattle.model.specs.Link.{VirtualLink, linkAt, sumOver, greatestOver}
+use Rattle.model.specs.Link.{VirtualLink, sumOver, greatestOver}
 use Rattle.model.specs.Arrival.{frameCurve, onLine}
-use Rattle.table.specs.declared.Table.{Table as TableRecord}
-use Rattle.table.specs.View.{linksOf}
-use Rattle.bounds.specs.declared.arrivals.Window.{Window}
 use Rattle.bounds.specs.declared.arrivals.Loads.{Loads}
 
 -- a priority from low to high, and the links that have one
@@ -27,12 +24,6 @@ less cut n = n - cut
 -- the bytes of a frame that its buffer does not keep: what a frame occupies is its length less these
 abbrev pub unkept : ℕ
 unkept = 0
-
--- a window with the number of frames of each link of the table
-pub record Counted (t : TableRecord) (window : Window) : Type 0 where
-  pub ticks : window .ticks ≤ 65_536
-  pub each : (i : ℕ) → i < t .count → getD (window .frames) i 0 ≡ frameCurve (linkAt (linksOf t) i) (window .ticks)
-  pub few : (i : ℕ) → i < t .count → getD (window .frames) i 0 ≤ 16
 
 -- the bytes of the members of a set on line ℓ in a window of w, and the longest of their frames
 abbrev pub lineSum : (ℕ → ℕ) → (VirtualLink → Bool) → List VirtualLink → ℕ → ℕ → ℕ

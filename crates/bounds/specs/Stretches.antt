@@ -20,10 +20,10 @@ use Rattle.bounds.specs.Peaks.{Bends, Highest}
 abbrev pub Stays : (VirtualLink → Bool) → VirtualLink → ℕ → ℕ → Type 0
 Stays set v w last = set v ≡ true → (k : ℕ) → w ≤ k → k ≤ last → frameCurve v k ≡ frameCurve v w
 
--- if the link has n frames in a window of w, it has as many up to r, provided it is of priority 0 to high
-pub record LinkSteady (l : LinkFields) (high n r : ℕ) : Type 0 where
-  pub past : (number w : ℕ) → w < 65_536 → n ≡ frameCurve (linkOf number l) w → w ≤ r
-  pub stays : (number w : ℕ) → n ≡ frameCurve (linkOf number l) w → Stays (between 0 high) (linkOf number l) w r
+-- the link has as many frames up to r as in a window of w, provided it is of priority 0 to high
+pub record LinkSteady (l : LinkFields) (high w r : ℕ) : Type 0 where
+  pub past : w ≤ r
+  pub stays : (number : ℕ) → Stays (between 0 high) (linkOf number l) w r
 
 -- so it is of the first n links
 abbrev pub Steady : (VirtualLink → Bool) → List VirtualLink → ℕ → ℕ → ℕ → Type 0

@@ -5,18 +5,11 @@ use table::VirtualLink;
 ghost use mathlib.Core.Path.{_≡_};
 ghost use Prim.Native.Nat.{ℕ, _*_, _≤_, _<_};
 ghost use lib.ListN.{getD};
-ghost use Rattle.model.specs.Basics.{provided};
 ghost use Rattle.model.specs.Link.{greatestOver};
 ghost use Rattle.model.specs.Arrival.{frameCurve, arrivalCurve};
 ghost use Rattle.table.specs.View.{linkOf, linksOf};
 ghost use Rattle.bounds.specs.Fit.{FitLink, Fit};
-ghost use Rattle.bounds.specs.Loads.{within, between, less, Counted, Loaded, flow};
-
-// A window of so many ticks, with the number of frames of each link in it.
-pub struct Window {
-    pub ticks: u64,
-    pub frames: [u64; 256],
-}
+ghost use Rattle.bounds.specs.Loads.{within, between, less, Loaded, flow};
 
 // For each line: the bytes of its members' frames, and the longest frame of a member.
 pub struct Loads {
@@ -24,26 +17,22 @@ pub struct Loads {
     pub tops: [u64; 24],
 }
 
-// N_v(w)
+// N_v(w). The BAG is 12,500 ticks times 2 to the power of the code: division by a constant and a shift are faster.
 pub(crate) fn frames(l: VirtualLink, w: u64) -> u64
     requires { ⌜ FitLink l × (w ≤ 65536) ⌝ }
     ensures { λ r. ⌜ ((n : ℕ) → r ≡ frameCurve (linkOf n l) w) × (r ≤ 16) ⌝ }
 {
-    1 + (w + numbers::wide32(l.jitter)) / table::bag(l.code)
+    1 + ((w + numbers::wide32(l.jitter)) / 12500 >> l.code)
 }
 
-// What a frame of a member counts for: its greatest length less what is cut off it; 0 of any other link.
-pub(crate) fn weight(l: VirtualLink, low: u8, high: u8, cut: u64) -> u64
-    requires { ⌜ FitLink l ⌝ }
-    ensures { λ r. ⌜ (r ≡ provided (within low high (l .priority)) (less cut (l .greatest))) × (r ≤ 1538) ⌝ }
+// Whether a link is of priority low to high.
+fn member(l: VirtualLink, low: u8, high: u8) -> bool
+    ensures { λ r. ⌜ r ≡ within low high (l .priority) ⌝ }
 {
     if l.priority < low {
-        return 0;
+        return false;
     }
-    if high < l.priority {
-        return 0;
-    }
-    numbers::excess(numbers::wide16(l.greatest), cut)
+    l.priority <= high
 }
 
 // The greatest length of the links of priority low to high.
@@ -56,35 +45,19 @@ pub(crate) fn longest(t: Table, low: u8, high: u8) -> u64
     let mut i: usize = 0;
     while i < count {
         let l = t.links[i];
-        top = numbers::larger(top, weight(l, low, high, 0));
+        if member(l, low, high) {
+            top = numbers::larger(top, numbers::wide16(l.greatest));
+        }
         i += 1;
     }
     top
 }
 
-// A window of w ticks, with N_v(w) of each link.
-pub(crate) fn window_of(t: Table, w: u64) -> Window
+// The loads of the lines by the links of priority low to high in a window of w ticks. A frame counts for its greatest
+// length less what is cut off it.
+pub(crate) fn loads_of(t: Table, w: u64, low: u8, high: u8, cut: u64) -> Loads
     requires { ⌜ Fit t × (w ≤ 65536) ⌝ }
-    ensures { λ r. ⌜ (r .ticks ≡ w) × Counted t r ⌝ }
-{
-    let count = numbers::index(t.count);
-    let mut counts = [0u64; 256];
-    let mut i: usize = 0;
-    while i < count {
-        let l = t.links[i];
-        counts[i] = frames(l, w);
-        i += 1;
-    }
-    Window {
-        ticks: w,
-        frames: counts,
-    }
-}
-
-// The loads of the lines by the links of priority low to high.
-pub(crate) fn loads_of(t: Table, window: Window, low: u8, high: u8, cut: u64) -> Loads
-    requires { ⌜ Fit t × Counted t window ⌝ }
-    ensures { λ r. ⌜ Loaded (less cut) (between low high) (linksOf t) (window .ticks) r ⌝ }
+    ensures { λ r. ⌜ Loaded (less cut) (between low high) (linksOf t) w r ⌝ }
 {
     let count = numbers::index(t.count);
     let mut sums = [0u64; 24];
@@ -92,10 +65,12 @@ pub(crate) fn loads_of(t: Table, window: Window, low: u8, high: u8, cut: u64) ->
     let mut i: usize = 0;
     while i < count {
         let l = t.links[i];
-        let k = l.line as usize;
-        let x = weight(l, low, high, cut);
-        sums[k] = sums[k] + x * window.frames[i];
-        tops[k] = numbers::larger(tops[k], x);
+        if member(l, low, high) {
+            let k = l.line as usize;
+            let x = numbers::excess(numbers::wide16(l.greatest), cut);
+            sums[k] = sums[k] + x * frames(l, w);
+            tops[k] = numbers::larger(tops[k], x);
+        }
         i += 1;
     }
     Loads { sums, tops }
@@ -120,6 +95,6 @@ pub(crate) fn arrivals(t: Table, low: u8, high: u8, w: u64) -> u64
     requires { ⌜ Fit t × (w ≤ 65536) ⌝ }
     ensures { λ r. ⌜ (r ≡ arrivalCurve (less 0) (between low high) (t .lines) (linksOf t) w) × (r ≤ 67074 * 24) ⌝ }
 {
-    let l = loads_of(t, window_of(t, w), low, high, 0);
+    let l = loads_of(t, w, low, high, 0);
     total(l, numbers::index(t.lines), w)
 }

@@ -1,17 +1,15 @@
 // A stretch of windows in which no link's number of frames changes: in it the backlog bends down.
 use crate::arrivals;
 use crate::arrivals::Loads;
-use crate::arrivals::Window;
 use crate::numbers;
 use table::Table;
 use table::VirtualLink;
 ghost use mathlib.Core.Path.{_≡_};
-ghost use Prim.Native.Nat.{_+_, _*_, _≤_, _<_};
-ghost use Rattle.model.specs.Link.{bagOf};
+ghost use Prim.Native.Nat.{_+_, _≤_, _<_};
 ghost use Rattle.model.specs.Bounds.{backlog};
 ghost use Rattle.table.specs.View.{linksOf, viewOf};
 ghost use Rattle.bounds.specs.Fit.{FitLink, Fit};
-ghost use Rattle.bounds.specs.Loads.{between, Counted};
+ghost use Rattle.bounds.specs.Loads.{between};
 ghost use Rattle.bounds.specs.Peaks.{Crest, Highest};
 ghost use Rattle.bounds.specs.Stretches.{LinkSteady, Steady, Given, Sized, Steep, Stretched, Improved, Raised, backlogBy, backlogIn};
 
@@ -32,29 +30,29 @@ pub struct Peak {
     pub window: u64,
 }
 
-// The last window in which the link still has n frames, or any other if its priority is above high.
-fn link_steady(l: VirtualLink, high: u8, n: u64) -> u64
-    requires { ⌜ FitLink l × (n ≤ 16) × (l .jitter < n * bagOf (l .code)) ⌝ }
-    ensures { λ r. ⌜ LinkSteady l high n r ⌝ }
+// The last window in which the link still has the frames of w, or any other if its priority is above high.
+fn link_steady(l: VirtualLink, high: u8, w: u64) -> u64
+    requires { ⌜ FitLink l × (w < 65536) ⌝ }
+    ensures { λ r. ⌜ LinkSteady l high w r ⌝ }
 {
     if high < l.priority {
         return 65535;
     }
+    let n = arrivals::frames(l, w);
     n * table::bag(l.code) - numbers::wide32(l.jitter) - 1
 }
 
-// A window up to which no link of priority 0 to high has more frames.
-fn steady(t: Table, window: Window, high: u8) -> u64
-    requires { ⌜ Fit t × Counted t window × (window .ticks < 65536) ⌝ }
-    ensures { λ r. ⌜ (window .ticks ≤ r) × Steady (between 0 high) (linksOf t) (t .count) (window .ticks) r ⌝ }
+// A window up to which no link of priority 0 to high has more frames than in w.
+fn steady(t: Table, w: u64, high: u8) -> u64
+    requires { ⌜ Fit t × (w < 65536) ⌝ }
+    ensures { λ r. ⌜ (w ≤ r) × Steady (between 0 high) (linksOf t) (t .count) w r ⌝ }
 {
     let count = numbers::index(t.count);
     let mut last: u64 = 65535;
     let mut i: usize = 0;
     while i < count {
         let l = t.links[i];
-        let n = window.frames[i];
-        last = numbers::smaller(last, link_steady(l, high, n));
+        last = numbers::smaller(last, link_steady(l, high, w));
         i += 1;
     }
     last
@@ -65,10 +63,9 @@ fn stretch_at(t: Table, p: u8, blocking: u64, longest: u64, w: u64, last: u64) -
     requires { ⌜ Given (viewOf t) p blocking longest last × Fit t × (w ≤ last) ⌝ }
     ensures { λ r. ⌜ Stretched (backlog (viewOf t) p) w last r ⌝ }
 {
-    let window = arrivals::window_of(t, w);
-    let own = arrivals::loads_of(t, window, p, p, 0);
-    let up = arrivals::loads_of(t, window, 0, p, 0);
-    let until = numbers::smaller(steady(t, window, p), last);
+    let own = arrivals::loads_of(t, w, p, p, 0);
+    let up = arrivals::loads_of(t, w, 0, p, 0);
+    let until = numbers::smaller(steady(t, w, p), last);
     let lines = numbers::index(t.lines);
     Stretch {
         own,

@@ -7,9 +7,6 @@ use borrow.Author.Needs.{needs}
 use Rattle.bounds.proofs.arrivals.arrivals.Statement.{statement}
 use Rattle.bounds.proofs.arrivals.arrivals.Tie as tie
 
-window-of-requires : tie.Need-window-of-requires
-window-of-requires c κs = search needs
-
 loads-of-requires : tie.Need-loads-of-requires
 loads-of-requires c κs = search needs
 
@@ -18,19 +15,17 @@ index-requires c κs = search needs
 
 total-requires : tie.Need-total-requires
 total-requires c κs =
-    let s = c .before .before .before in
-    let d = rw (c .before .before .window-of .ensures .0) at (c .before .loads-of .ensures) in
-    (omega arith, s .pre .1, tops-few (s .args .t) (s .pre .0) (between (s .args .low) (s .args .high)) 0 (s .args .w) (s .pre .1) (c .before .loads-of .result) d)
+    let s = c .before .before in
+    (omega arith, s .pre .1, tops-few (s .args .t) (s .pre .0) (between (s .args .low) (s .args .high)) 0 (s .args .w) (s .pre .1) (c .before .loads-of .result) (c .before .loads-of .ensures))
 
 returns : tie.Need-returns
 returns c =
-    let s = c .before .before .before .before in
-    let d = rw (c .before .before .before .window-of .ensures .0) at (c .before .before .loads-of .ensures) in
+    let s = c .before .before .before in
+    let d = c .before .before .loads-of in
     let e = rw (c .before .index .ensures) at (c .total .ensures .0) in (
-      e ∙ flow-is (less 0) (between (s .args .low) (s .args .high)) (linksOf (s .args .t)) (s .args .w) (c .before .before .loads-of .result) (s .args .t .lines) (s .pre .0 .lines) d,
+      e ∙ flow-is (less 0) (between (s .args .low) (s .args .high)) (linksOf (s .args .t)) (s .args .w) (d .result) (s .args .t .lines) (s .pre .0 .lines) (d .ensures),
       omega arith,
     )
 
 pub arrivals-spec : {M : Type 1} → statement M
-arrivals-spec =
-    tie.close (tie.spec window-of-requires loads-of-requires index-requires total-requires returns)
+arrivals-spec = tie.close (tie.spec loads-of-requires index-requires total-requires returns)

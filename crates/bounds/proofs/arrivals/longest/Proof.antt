@@ -1,4 +1,5 @@
-use mathlib.Core.Path.{_≡_}
+use mathlib.Core.Path.{_≡_, sym, _∙_}
+use mathlib.Core.Logic.{⊎-elim}
 use Prim.Native.Nat.{_-_, _≤_}
 use borrow.Author.Needs.{needs}
 use native.Mathlib.Omega.{arith}
@@ -6,7 +7,7 @@ use lib.ListN.{take}
 use Rattle.model.specs.Link.{greatestOver}
 use Rattle.table.specs.View.{linksOf}
 use Rattle.bounds.specs.Loads.{between}
-use Rattle.bounds.proofs.Loading.{longest-none, longest-step, longest-all}
+use Rattle.bounds.proofs.Loading.{longest-none, longest-skip, longest-step, longest-all}
 use Rattle.bounds.proofs.arrivals.longest.Statement.{statement}
 use Rattle.bounds.proofs.arrivals.longest.Tie as tie
 
@@ -28,8 +29,11 @@ mul-l c = omega arith
 element-copy-out-l : tie.Need-element-copy-out-l Inv-loop μ-loop
 element-copy-out-l c = omega arith
 
-weight-requires : tie.Need-weight-requires Inv-loop μ-loop
-weight-requires c κs = c .before .before .before .before .pre .each (c .before .before .loop .i) (omega arith)
+member-requires : tie.Need-member-requires Inv-loop μ-loop
+member-requires c κs = search needs
+
+wide16-requires : tie.Need-wide16-requires Inv-loop μ-loop
+wide16-requires c κs = search needs
 
 larger-requires : tie.Need-larger-requires Inv-loop μ-loop
 larger-requires c κs = search needs
@@ -43,12 +47,23 @@ loop-less c = omega arith
 loop-again : tie.Need-loop-again Inv-loop μ-loop
 loop-again c =
     let s = c .before .before .before .before .before .before in
-    let o = c .before .before .before .before .loop in (
+    let o = c .before .before .before .before .loop in
+    let e = c .before .member .ensures in
+    let f = s .pre .each (o .i) (omega arith) .greatest in
+    ⊎-elim
+    (λ y. (
       omega arith,
       o .inv .1,
-      longest-step (s .args .t1) (s .pre) (s .args .low) (s .args .high) (o .i) (omega arith) (o .top) (c .before .weight .result) (c .larger .result) (o .inv .2) (c .before .weight .ensures .0) (c .larger .ensures),
+      rw (y .3) (longest-step (s .args .t1) (s .pre) (s .args .low) (s .args .high) (o .i) (omega arith) (o .top) (o .inv .2) (sym (y .0 .taken) ∙ e) (y .1 .result) (y .2 .result) (y .1 .ensures .0) (y .2 .ensures)),
+      rw (y .3) (omega (arith, y .1 .ensures .0, y .2 .ensures)),
+    ))
+    (λ n. (
       omega arith,
-    )
+      o .inv .1,
+      rw (n .1) (longest-skip (s .args .t1) (s .pre) (s .args .low) (s .args .high) (o .i) (omega arith) (o .top) (o .inv .2) (sym (n .0 .left) ∙ e)),
+      rw (n .1) (omega arith),
+    ))
+    (c .if1 .came)
 
 returns : tie.Need-returns Inv-loop μ-loop
 returns c =
@@ -65,7 +80,8 @@ longest-spec =
     loop-holds
     mul-l
     element-copy-out-l
-    weight-requires
+    member-requires
+    wide16-requires
     larger-requires
     add-i
     loop-less

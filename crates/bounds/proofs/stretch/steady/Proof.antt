@@ -2,19 +2,18 @@ use mathlib.Core.Path.{_≡_}
 use Prim.Native.Nat.{_-_, _≤_}
 use borrow.Author.Needs.{needs}
 use native.Mathlib.Omega.{arith}
-use lib.ListN.{getD}
 use Rattle.table.specs.View.{linksOf}
 use Rattle.bounds.specs.Loads.{between}
 use Rattle.bounds.specs.Stretches.{Steady}
-use Rattle.bounds.proofs.Steadiness.{jitter-below, steady-past, steady-step}
+use Rattle.bounds.proofs.Steadiness.{steady-step}
 use Rattle.bounds.proofs.stretch.steady.Statement.{statement}
 use Rattle.bounds.proofs.stretch.steady.Tie as tie
 
 abbrev Inv-loop : tie.InvT-loop
-Inv-loop high t window count last₀ i₀ last i = (i ≤ t .count) × (count ≡ t .count) × (window .ticks ≤ last) × Steady (between 0 high) (linksOf t) i (window .ticks) last
+Inv-loop w high t count last₀ i₀ last i = (i ≤ t .count) × (count ≡ t .count) × (w ≤ last) × Steady (between 0 high) (linksOf t) i w last
 
 abbrev μ-loop : tie.MeasureT-loop
-μ-loop high t window count last₀ i₀ last i = t .count - i
+μ-loop w high t count last₀ i₀ last i = t .count - i
 
 index-requires : tie.Need-index-requires Inv-loop μ-loop
 index-requires c κs = search needs
@@ -28,20 +27,8 @@ mul-l c = omega arith
 element-copy-out-l : tie.Need-element-copy-out-l Inv-loop μ-loop
 element-copy-out-l c = omega arith
 
-mul-n : tie.Need-mul-n Inv-loop μ-loop
-mul-n c = omega arith
-
-element-copy-out-n : tie.Need-element-copy-out-n Inv-loop μ-loop
-element-copy-out-n c = omega arith
-
 link-steady-requires : tie.Need-link-steady-requires Inv-loop μ-loop
-link-steady-requires c κs =
-    let s = c .before .before .before .before .before in
-    let i = c .before .before .before .loop .i in (
-      s .pre .0 .each i (omega arith),
-      s .pre .1 .few i (omega arith),
-      jitter-below (s .args .t1) (s .pre .0) i (omega arith) (s .args .t2 .ticks) (getD (s .args .t2 .frames) i 0) (s .pre .1 .each i (omega arith)),
-    )
+link-steady-requires c κs = (c .before .before .before .before .pre .0 .each (c .before .before .loop .i) (omega arith), c .before .before .before .before .pre .1)
 
 smaller-requires : tie.Need-smaller-requires Inv-loop μ-loop
 smaller-requires c κs = search needs
@@ -54,15 +41,13 @@ loop-less c = omega arith
 
 loop-again : tie.Need-loop-again Inv-loop μ-loop
 loop-again c =
-    let s = c .before .before .before .before .before .before .before in
-    let o = c .before .before .before .before .before .loop in
-    let n = getD (s .args .t2 .frames) (o .i) 0 in
-    let e = s .pre .1 .each (o .i) (omega arith) in
+    let s = c .before .before .before .before .before .before in
+    let o = c .before .before .before .before .loop in
     let d = c .before .link-steady in (
       omega arith,
       o .inv .1,
-      omega (arith, steady-past (s .args .t1) (s .pre .0) (o .i) (omega arith) (s .args .t2 .ticks) n e (s .args .high) (d .result) (d .ensures) (s .pre .2)),
-      steady-step (s .args .t1) (s .pre .0) (o .i) (omega arith) (s .args .t2 .ticks) n e (s .args .high) (d .result) (d .ensures) (o .last) (c .smaller .result) (o .inv .3) (c .smaller .ensures),
+      omega (arith, d .ensures .past),
+      steady-step (s .args .t1) (s .pre .0) (o .i) (omega arith) (s .args .w) (s .args .high) (d .result) (d .ensures) (o .last) (c .smaller .result) (o .inv .3) (c .smaller .ensures),
     )
 
 returns : tie.Need-returns Inv-loop μ-loop
@@ -78,8 +63,6 @@ steady-spec =
     loop-holds
     mul-l
     element-copy-out-l
-    mul-n
-    element-copy-out-n
     link-steady-requires
     smaller-requires
     add-i

@@ -3,9 +3,6 @@ use borrow.Author.Needs.{needs}
 use Rattle.bounds.proofs.stretch.stretch_at.Statement.{statement}
 use Rattle.bounds.proofs.stretch.stretch_at.Tie as tie
 
-window-of-requires : tie.Need-window-of-requires
-window-of-requires c κs = search needs
-
 loads-of-requires : tie.Need-loads-of-requires
 loads-of-requires c κs = search needs
 
@@ -23,20 +20,18 @@ index-requires c κs = search needs
 
 returns : tie.Need-returns
 returns c =
-    let s = c .before .before .before .before .before .before in
-    let e = c .before .before .before .before .before .window-of .ensures .0 in
+    let s = c .before .before .before .before .before in
     let own = c .before .before .before .before .loads-of in
     let up = c .before .before .before .loads-of2 in
     let d = c .before .before .steady in
     stretched (s .args .t) (s .pre .1) (s .args .p) (s .args .blocking) (s .args .longest) (s .args .last) (s .args .w) (s .pre .0) (s .pre .2)
-    (own .result) (up .result) (rw e at (own .ensures)) (rw e at (up .ensures)) (d .result) (c .before .smaller .result) (rw e at (d .ensures .0)) (rw e at (d .ensures .1)) (c .before .smaller .ensures)
+    (own .result) (up .result) (own .ensures) (up .ensures) (d .result) (c .before .smaller .result) (d .ensures .0) (d .ensures .1) (c .before .smaller .ensures)
     (c .index .result) (c .index .ensures)
 
 pub stretch-at-spec : {M : Type 1} → statement M
 stretch-at-spec =
     tie.close
     (tie.spec
-    window-of-requires
     loads-of-requires
     loads-of-requires-2
     steady-requires
