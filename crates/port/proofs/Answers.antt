@@ -31,18 +31,18 @@ use Rattle.scheduler.specs.Contracts.{Ready, advanceOf, Advanced}
 use Rattle.scheduler.proofs.Shown.{queue-shown, length-shown}
 use Rattle.scheduler.proofs.Shown.{count-shown as queue-count}
 use Rattle.port.specs.declared.Port.{Port as PortRecord}
-use Rattle.port.specs.declared.lookup.Place.{Place}
-use Rattle.port.specs.declared.lookup.Place.the-variants.{At, Nowhere}
+use Rattle.lookup.specs.declared.Place.{Place}
+use Rattle.lookup.specs.declared.Place.the-variants.{At, Nowhere}
 use Rattle.port.specs.declared.Answer.{Answer as AnswerRecord}
 use Rattle.port.specs.declared.Report.{Report as ReportRecord}
 use Rattle.port.specs.declared.Report.the-variants.{Wait, Frame as FrameOf}
 use Rattle.port.specs.declared.reports.Judgement.{Judgement}
 use Rattle.port.specs.declared.reports.Settled.{Settled}
 use Rattle.port.specs.View.{tableOf, portOf, reportOf}
-use Rattle.port.specs.Places.{Rising, Found}
+use Rattle.lookup.specs.Places.{Rising, Found}
 use Rattle.port.specs.Judgement.{judgementOf, Kept, Roomy, Settles}
 use Rattle.port.specs.Contracts.{stepOf, Answered}
-use Rattle.port.proofs.Tables.{Passing, passing, counts-pass}
+use Rattle.lookup.proofs.Tables.{Passing, passing, counts-pass}
 use Rattle.port.proofs.Whole.{Whole}
 use Rattle.port.proofs.Accepted.{accepted}
 use Rattle.port.proofs.Accepted.{arrives as arrives-at-line}

@@ -1,5 +1,5 @@
 -- The model's fitness of a port record, by the conditions over the code's records.
-use mathlib.Core.Path.{_≡_, sym, _∙_}
+use mathlib.Core.Path.{_≡_, refl, sym, _∙_}
 use mathlib.Core.Bool.{Bool, true, false}
 use mathlib.Core.List.{List, [], _∷_}
 use Prim.Native.Nat.{ℕ, _≤_, _<_}
@@ -19,8 +19,10 @@ use Rattle.scheduler.specs.declared.Queue.{Queue}
 use Rattle.scheduler.specs.View.{queuesOf, marksOf, senderOf}
 use Rattle.port.specs.declared.Port.{Port as PortRecord}
 use Rattle.port.specs.View.{tableOf, portOf}
-use Rattle.port.specs.Fitness.{queuesFit, linesFit, ticksFit, creditsFit, conditions}
-use Rattle.port.proofs.All.{same-truth, all-four, any-false}
+use Rattle.fitness.specs.declared.Queued.{Queued}
+use Rattle.fitness.specs.Conditions.{queuesFit, linesFit, ticksFit, creditsFit, Told}
+use Rattle.port.specs.Fitness.{conditions, Checked}
+use Rattle.fitness.proofs.All.{not-both, same-truth, all-four, any-false}
 
 -- four conditions are one
 grouped : (a b c d e f g h i j q : Bool) → q ≡ allHold (c ∷ d ∷ e ∷ f ∷ []) →
@@ -61,39 +63,54 @@ module _ (p : PortRecord) where
   fails : (i : ℕ) → getD (conditions p) i true ≡ false → false ≡ fit (tableOf p) (portOf p)
   fails i e = any-false (conditions p) i e ∙ sym fit-shown
 
-  pub table-refused : {n : ℕ} → n ≡ tableRefusal (viewOf (p .table)) → (n ≡ 0 → ⊥) → false ≡ fit (tableOf p) (portOf p)
-  unfolding conditions
-  table-refused e x = fails 0 (ne-eqb (tableRefusal (viewOf (p .table))) 0 (λ z. x (e ∙ z)))
+  -- ---- a record that is not fit
+  module _ (r : Queued) (e : r .fits ≡ false) where
+    unfit-checked : false ≡ fit (tableOf p) (portOf p) → Checked p r
+    unfit-checked x = record { fits-is = e ∙ x; counted = λ y. not-both y e }
 
-  pub clock-late : lastTick < p .clock → false ≡ fit (tableOf p) (portOf p)
-  unfolding conditions
-  clock-late h = fails 1 (lt-leb (p .clock) lastTick h)
+    pub table-refused : {n : ℕ} → n ≡ tableRefusal (viewOf (p .table)) → (n ≡ 0 → ⊥) → Checked p r
+    unfolding conditions
+    table-refused x y = unfit-checked (fails 0 (ne-eqb (tableRefusal (viewOf (p .table))) 0 (λ z. y (x ∙ z))))
 
-  pub queues-unfit : false ≡ queuesFit (p .table) (p .clock) (p .queues) → false ≡ fit (tableOf p) (portOf p)
-  unfolding conditions
-  queues-unfit e = fails 2 (sym e)
+    pub clock-late : lastTick < p .clock → Checked p r
+    unfolding conditions
+    clock-late h = unfit-checked (fails 1 (lt-leb (p .clock) lastTick h))
 
-  pub lines-unfit : false ≡ linesFit (p .«line_ticks») (p .table .lines) (p .clock) → false ≡ fit (tableOf p) (portOf p)
-  unfolding conditions
-  lines-unfit e = fails 3 (sym e)
+    pub queues-unfit : false ≡ allHold (queuesFit (p .table) (p .clock) (p .queues) ∷ senderFit (p .clock) (queuesOf (p .queues)) (senderOf (p .sender)) ∷ []) → Checked p r
+    unfolding conditions
+    queues-unfit x = unfit-checked (go (fit (tableOf p) (portOf p)) refl)
+      where
+        go : (b : Bool) → fit (tableOf p) (portOf p) ≡ b → false ≡ b
+        go false y = refl
+        go true y =
+            let all = all-true (conditions p) (sym fit-shown ∙ y) in
+            not-both (true-all _ (all .1 .1 .0, (all .1 .1 .1 .1 .1 .1 .0, tt))) (sym x)
 
-  pub ticks-unfit : false ≡ ticksFit (p .accounts) (p .table .count) (p .clock) → false ≡ fit (tableOf p) (portOf p)
-  unfolding conditions
-  ticks-unfit e = fails 4 (sym e)
+    pub lines-unfit : false ≡ linesFit (p .«line_ticks») (p .table .lines) (p .clock) → Checked p r
+    unfolding conditions
+    lines-unfit x = unfit-checked (fails 3 (sym x))
 
-  pub credits-unfit : false ≡ creditsFit (p .accounts) (p .table) → false ≡ fit (tableOf p) (portOf p)
-  unfolding conditions
-  credits-unfit e = fails 5 (sym e)
-
-  pub sender-decides : tableRefusal (viewOf (p .table)) ≡ 0 → p .clock ≤ lastTick → true ≡ queuesFit (p .table) (p .clock) (p .queues)
-      → true ≡ linesFit (p .«line_ticks») (p .table .lines) (p .clock) → true ≡ ticksFit (p .accounts) (p .table .count) (p .clock) → true ≡ creditsFit (p .accounts) (p .table)
-      → (b : Bool) → b ≡ senderFit (p .clock) (queuesOf (p .queues)) (senderOf (p .sender)) → b ≡ fit (tableOf p) (portOf p)
-  unfolding conditions
-  sender-decides a c d e f g true h =
-      sym
-      (fit-shown
-      ∙ true-all (conditions p) (
-        eq-eqb (tableRefusal (viewOf (p .table))) 0 a,
-        (le-leb (p .clock) lastTick c, (sym d, (sym e, (sym f, (sym g, (sym h, tt)))))),
-      ))
-  sender-decides a c d e f g false h = fails 6 (sym h)
+  -- ---- the accounts decide
+  module _ (a : tableRefusal (viewOf (p .table)) ≡ 0) (b : p .clock ≤ lastTick) {q : Queued} (told : Told (p .table) (p .clock) (p .queues) (p .sender) q) (yes : q .fits ≡ true)
+      (c : true ≡ linesFit (p .«line_ticks») (p .table .lines) (p .clock)) where
+    pub accounts-decide : (f : Bool) → f ≡ allHold (ticksFit (p .accounts) (p .table .count) (p .clock) ∷ creditsFit (p .accounts) (p .table) ∷ [])
+        → Checked p (record { fits = f; frames = q .frames })
+    unfolding conditions
+    accounts-decide f x =
+        let two = all-true _ (sym (told .fits-is) ∙ yes) in
+        record {
+          fits-is =
+              x
+              ∙ same-truth _ _
+              (λ (y : allHold (ticksFit (p .accounts) (p .table .count) (p .clock) ∷ creditsFit (p .accounts) (p .table) ∷ []) ≡ true).
+              let accounts = all-true _ y in
+              fit-shown
+              ∙ true-all (conditions p) (
+                eq-eqb (tableRefusal (viewOf (p .table))) 0 a,
+                (le-leb (p .clock) lastTick b, (two .0, (sym c, (accounts .0, (accounts .1 .0, (two .1 .0, tt)))))),
+              ))
+              (λ (y : fit (tableOf p) (portOf p) ≡ true).
+              let all = all-true (conditions p) (sym fit-shown ∙ y) in
+              true-all _ (all .1 .1 .1 .1 .0, (all .1 .1 .1 .1 .1 .0, tt)));
+          counted = λ y. told .counted yes;
+        }

@@ -23,7 +23,7 @@ use Rattle.port.specs.declared.Fresh.{Fresh as FreshRecord}
 use Rattle.port.specs.View.{portOf, emptyQueue, restingPort, freshPort, blankPort}
 use Rattle.port.specs.Contracts.{freshOr, freshOf}
 use Rattle.port.specs.Resting.{fullAccounts, restingWith}
-use Rattle.port.proofs.Tables.{counts-pass}
+use Rattle.lookup.proofs.Tables.{counts-pass}
 
 -- ---- blanks
 entries-blank {ℓ} : {A : Type ℓ} (b : A) (n : ℕ) → entries b n [] ≡ replicate n b

@@ -1,10 +1,3 @@
-pub mod All
-pub mod Tables
-pub mod Halving
-pub mod Entries
-pub mod Frames
-pub mod Sending
-pub mod Queued
 pub mod Conditions
 pub mod Refused
 pub mod Whole

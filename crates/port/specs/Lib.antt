@@ -1,6 +1,5 @@
 pub mod View
 pub mod Contracts
-pub mod Places
 pub mod Fitness
 pub mod Refusals
 pub mod Judgement

@@ -1,6 +1,4 @@
 // An output port: fitness, the fresh port, frame and wait reports.
-mod fitness;
-mod lookup;
 mod refusals;
 mod reports;
 mod resting;

@@ -1,13 +1,14 @@
 // The refusals of a report, 10 to 16, in order.
 use crate::Port;
 use crate::Report;
-use crate::fitness::fit;
-use crate::lookup::wide;
+use fitness::Queued;
+use lookup::wide;
 ghost use mathlib.Core.Path.{_≡_};
 ghost use Rattle.model.specs.Basics.{firstMet};
 ghost use Rattle.model.specs.Table.{Table as TableOf};
 ghost use Rattle.model.specs.Report.{Port as PortOf, tickOf, frameChecks, reportRefusal};
 ghost use Rattle.port.specs.View.{tableOf, portOf, reportOf};
+ghost use Rattle.port.specs.Fitness.{Checked};
 ghost use Rattle.port.specs.Refusals.{Clocked, Lines};
 
 pub(crate) fn tick_of(report: Report) -> u64
@@ -43,11 +44,41 @@ fn frame_refusal(ticks: [u64; 24], lines: u16, report: Report) -> u32
     0
 }
 
+// Whether a port record is fit, condition by condition, and, if it is, how many frames it holds.
+fn fit(p: Port) -> Queued
+    ensures { λ r. ⌜ Checked p r ⌝ }
+{
+    let t = p.table;
+    if table::check(t) != 0 {
+        return fitness::unfit();
+    }
+    let clock = p.clock;
+    if 281474976710655 < clock {
+        return fitness::unfit();
+    }
+    let queues = p.queues;
+    let sender = p.sender;
+    let queued = fitness::queues_fit(t, queues, sender, clock);
+    if !queued.fits {
+        return fitness::unfit();
+    }
+    let line_ticks = p.line_ticks;
+    if !fitness::lines_fit(line_ticks, t.lines, clock) {
+        return fitness::unfit();
+    }
+    let accounts = p.accounts;
+    Queued {
+        fits: fitness::accounts_fit(accounts, t, clock),
+        frames: queued.frames,
+    }
+}
+
 // 0, or the number of the first refusal of a report that is lent a list of so much room.
 pub(crate) fn refusal(p: Port, report: Report, room: usize) -> u32
     ensures { λ r. ⌜ r ≡ reportRefusal (tableOf p) (portOf p) (reportOf report) room ⌝ }
 {
-    if !fit(p) {
+    let checked = fit(p);
+    if !checked.fits {
         return 10;
     }
     let time = tick_of(report);
@@ -63,8 +94,7 @@ pub(crate) fn refusal(p: Port, report: Report, room: usize) -> u32
     if refused != 0 {
         return refused;
     }
-    let queues = p.queues;
-    if (room as u64) < 3 * scheduler::frames_held(queues) {
+    if (room as u64) < 3 * checked.frames {
         return 16;
     }
     0

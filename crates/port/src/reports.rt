@@ -2,9 +2,8 @@
 use crate::Answer;
 use crate::Port;
 use crate::Report;
-use crate::lookup;
-use crate::lookup::Place;
 use crate::refusals;
+use lookup::Place;
 use policing::Account;
 use scheduler::Frame;
 use scheduler::Queue;

@@ -3,7 +3,7 @@ use mathlib.Core.Path.{_≡_, ap}
 use native.Mathlib.Omega.{arith}
 use lib.ListN.{length}
 use Rattle.port.specs.View.{reportOf}
-use Rattle.port.proofs.Entries.{entry-shown}
+use Rattle.fitness.proofs.Entries.{entry-shown}
 use Rattle.port.proofs.Refused.{no-frame, no-line, too-short, too-long, overlaps, in-order}
 use Rattle.port.proofs.refusals.frame_refusal.Statement.{statement}
 use Rattle.port.proofs.refusals.frame_refusal.Tie as tie

@@ -5,7 +5,7 @@ use lib.ListN.{length, getD}
 use Rattle.model.specs.Report.{frame}
 use Rattle.table.specs.View.{blankFields}
 use Rattle.port.specs.View.{reportOf}
-use Rattle.port.proofs.Tables.{Passing}
+use Rattle.lookup.proofs.Tables.{Passing}
 use Rattle.port.proofs.Whole.{Whole, whole}
 use Rattle.port.proofs.Answers.{NotRefused, is-wait, is-frame, passed, ready, found-at, found-nowhere, line-in, length-most, place-in, priority-in, roomy, waits, arrives-nowhere, arrives-at}
 use borrow.Author.Needs.{needs}
@@ -13,7 +13,7 @@ use Rattle.port.proofs.reports.report.Statement.{statement}
 use Rattle.port.proofs.reports.report.Tie as tie
 use Rattle.port.proofs.reports.report.Reads as reads
 use Rattle.port.proofs.reports.report.Lts as lts
-use Rattle.port.proofs.lookup.place_of.Reads as place-of-reads
+use Rattle.lookup.proofs.place_of.Reads as place-of-reads
 use Rattle.port.proofs.reports.arrived.Reads as arrived-reads
 use Rattle.port.proofs.reports.settle.Reads as settle-reads
 use Rattle.port.proofs.refusals.tick_of.Reads as tick-of-reads

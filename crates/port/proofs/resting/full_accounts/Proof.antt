@@ -5,7 +5,7 @@ use native.Mathlib.Omega.{arith}
 use lib.ListN.{getD, take}
 use Rattle.table.specs.View.{blankFields, linksOf}
 use Rattle.table.proofs.Shape.{sized}
-use Rattle.port.proofs.Entries.{bag-most}
+use Rattle.fitness.proofs.Entries.{bag-most}
 use Rattle.port.proofs.FreshPort.{accountsOf, none-yet, next-account, all-accounts}
 use Rattle.port.proofs.resting.full_accounts.Statement.{statement}
 use Rattle.port.proofs.resting.full_accounts.Tie as tie

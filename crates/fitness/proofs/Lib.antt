@@ -1,0 +1,5 @@
+pub mod All
+pub mod Entries
+pub mod Frames
+pub mod Sending
+pub mod QueueTests

@@ -1,0 +1,64 @@
+// Internal to the product: looking the number of a virtual link up.
+ghost use Prim.Native.Nat.{_≤_, _<_};
+ghost use mathlib.Core.Path.{_≡_};
+ghost use Rattle.lookup.specs.Places.{Rising, Found};
+
+pub enum Place {
+    At(usize),
+    Nowhere,
+}
+
+pub fn wide(x: u16) -> u64
+    ensures { λ r. ⌜ (r ≡ x) × (r ≤ 65535) ⌝ }
+{
+    x as u64
+}
+
+// The place of a number among the first count, which rise. It is one of the span places from low on, if there is one.
+pub fn place_of(numbers: &[u16; 256], count: u16, number: u64) -> Place
+    requires { ⌜ (0 < count) × (count ≤ 256) × Rising (now numbers) count ⌝ }
+    ensures { λ r. ⌜ Found (now (numbers .entry)) count number r ⌝ }
+{
+    let mut low: usize = 0;
+    let mut span = count as usize;
+    while 1 < span {
+        let half = span / 2;
+        if wide(numbers[low + half]) <= number {
+            low += half;
+        }
+        span -= half;
+    }
+    if wide(numbers[low]) == number {
+        return Place::At(low);
+    }
+    Place::Nowhere
+}
+
+// Guesses at the places of the first count numbers, by their last ten bits.
+// A guess may be wrong: place_near tests it.
+pub fn guesses_of(numbers: &[u16; 256], count: u16) -> [u8; 1024]
+    requires { ⌜ count ≤ 256 ⌝ }
+{
+    let mut guesses = [0u8; 1024];
+    let n = count as usize;
+    let mut i: usize = 0;
+    while i < n {
+        guesses[(numbers[i] % 1024) as usize] = i as u8;
+        i += 1;
+    }
+    guesses
+}
+
+// The place of a number, which is often the guess.
+pub fn place_near(numbers: &[u16; 256], count: u16, number: u16, guess: u8) -> Place
+    requires { ⌜ (0 < count) × (count ≤ 256) × Rising (now numbers) count ⌝ }
+    ensures { λ r. ⌜ Found (now (numbers .entry)) count number r ⌝ }
+{
+    if (guess as u16) < count {
+        let i = guess as usize;
+        if numbers[i] == number {
+            return Place::At(i);
+        }
+    }
+    place_of(numbers, count, wide(number))
+}
