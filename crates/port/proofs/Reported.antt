@@ -26,13 +26,11 @@ use Rattle.scheduler.specs.View.{frameOf, blankQueue, framesOf, queuesOf, marks
 use Rattle.scheduler.specs.Contracts.{advanceOf, Advanced}
 use Rattle.scheduler.proofs.Shown.{queue-shown, queues-set, length-shown}
 use Rattle.port.specs.declared.Port.{Port as PortRecord}
-use Rattle.port.specs.declared.reports.Judgement.{Judgement}
-use Rattle.port.specs.declared.reports.Settled.{Settled}
 use Rattle.port.specs.View.{tableOf, portOf}
-use Rattle.port.specs.Judgement.{judgementOf, Stored, Kept, Settles}
+use Rattle.port.specs.Storing.{Stored, Kept}
 use Rattle.port.specs.Contracts.{stepOf, Answered}
 use Rattle.port.proofs.Stores.{entries-set, map-set, getD-entries}
-use Rattle.port.proofs.Judged.{storedBy, judgementAt, judged-at, judged-nowhere}
+use Rattle.port.proofs.Judged.{storedBy}
 
 -- ---- one queue of the eight after a frame
 module _ (qs : List Queue) (k : ℕ) (eight : length qs ≡ 8) (below : k < 8) (f : FrameRecord) where
@@ -99,16 +97,21 @@ module _ (p : PortRecord) {time : ℕ} {before after : List ℕ} {m : Moved} (mo
         moved-parts (entries 0 (p .table .lines) (set (p .«line_ticks») line time)) (entries blankAccount (p .table .count) (map accountOf (p .accounts)))
         ∙ rw (entries-set 0 (p .table .lines) (p .«line_ticks») line time line-in)
 
+    pub charged : (i : ℕ) (a : AccountRecord) → i < length (p .accounts) →
+        portOf (made p time m (m .queues) (set (p .«line_ticks») line time) (set (p .accounts) i a)) ≡ withAccount (withLineTick (there p time) line time) i (accountOf a)
+    unfolding portOf
+    charged i a i-in =
+        moved-parts (entries 0 (p .table .lines) (set (p .«line_ticks») line time)) (entries blankAccount (p .table .count) (map accountOf (set (p .accounts) i a)))
+        ∙ rw (
+          entries-set 0 (p .table .lines) (p .«line_ticks») line time line-in,
+          map-set accountOf (p .accounts) i a,
+          entries-set blankAccount (p .table .count) (map accountOf (p .accounts)) i (accountOf a) (rw length-map i-in),
+        )
+
     pub settled : (i k n : ℕ) (a : AccountRecord) (f : FrameRecord) (r : Queue) → i < length (p .accounts) → k < 8 → Kept n (getD (m .queues) k blankQueue) f r →
         portOf (made p time m (set (m .queues) k r) (set (p .«line_ticks») line time) (set (p .accounts) i a)) ≡ storedBy n (withAccount (withLineTick (there p time) line time) i (accountOf a)) k (frameOf f)
     unfolding portOf
     settled i k n a f r i-in k-in kept =
         kept-shown (m .queues) k (moves .eight) k-in f time (senderOf (m .sender)) (entries 0 (p .table .lines) (set (p .«line_ticks») line time))
         (entries blankAccount (p .table .count) (map accountOf (set (p .accounts) i a))) n r kept
-        ∙ ap (λ (s : Port). storedBy n s k (frameOf f))
-        (moved-parts (entries 0 (p .table .lines) (set (p .«line_ticks») line time)) (entries blankAccount (p .table .count) (map accountOf (set (p .accounts) i a)))
-        ∙ rw (
-          entries-set 0 (p .table .lines) (p .«line_ticks») line time line-in,
-          map-set accountOf (p .accounts) i a,
-          entries-set blankAccount (p .table .count) (map accountOf (p .accounts)) i (accountOf a) (rw length-map i-in),
-        ))
+        ∙ ap (λ (s : Port). storedBy n s k (frameOf f)) (charged i a i-in)

@@ -3,6 +3,7 @@ pub mod Contracts
 pub mod Places
 pub mod Fitness
 pub mod Refusals
-pub mod Judgement
+pub mod Charging
+pub mod Storing
 pub mod Resting
 pub mod Calls

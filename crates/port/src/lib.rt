@@ -1,4 +1,5 @@
 // An output port: fitness, the fresh port, frame and wait reports.
+mod charging;
 mod fitness;
 mod lookup;
 mod refusals;
