@@ -124,32 +124,35 @@ pub(crate) fn report(p: Port, r: Report, list: &mut [u64]) -> Answer
     let table = p.table;
     let queues = moved.queues;
     let sender = moved.sender;
-    let line_ticks = p.line_ticks;
+    let frames = moved.frames;
+    let bytes = moved.bytes;
+    let mut line_ticks = p.line_ticks;
     let accounts = p.accounts;
-    let mut port = Port {
-        table,
-        clock: time,
-        queues,
-        sender,
-        line_ticks,
-        accounts,
-    };
     let mut verdict: u32 = 0;
     if let Report::Frame(_, line, number, length) = r {
-        port.line_ticks[line as usize] = time;
+        line_ticks[line as usize] = time;
         verdict = 1;
         if let Place::At(i) = lookup::place_of(&table.numbers, table.count, number) {
             let link = table.links[i];
             let f = arrived(table.numbers[i], length, time);
+            // A frame that is charged has an answer of its own: the others pay for no copy of the port.
             if admits(link, line, f.length) {
+                let reached = Port {
+                    table,
+                    clock: time,
+                    queues,
+                    sender,
+                    line_ticks,
+                    accounts,
+                };
                 let c = charging::charge_in(
-                    port,
+                    reached,
                     i,
                     table::bag(link.code),
                     wide32(link.jitter),
                     time,
                 );
-                port = c.port;
+                let mut port = c.port;
                 verdict = 2;
                 if c.passed {
                     let k = link.priority as usize;
@@ -158,15 +161,29 @@ pub(crate) fn report(p: Port, r: Report, list: &mut [u64]) -> Answer
                     let kept = s.queue;
                     port.queues[k] = kept;
                 }
+                return Answer {
+                    refused: 0,
+                    verdict,
+                    frames,
+                    bytes,
+                    port,
+                };
             }
         }
     }
     Answer {
         refused: 0,
         verdict,
-        frames: moved.frames,
-        bytes: moved.bytes,
-        port,
+        frames,
+        bytes,
+        port: Port {
+            table,
+            clock: time,
+            queues,
+            sender,
+            line_ticks,
+            accounts,
+        },
     }
 }
 

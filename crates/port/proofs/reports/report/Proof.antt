@@ -110,63 +110,63 @@ advance-requires : tie.Need-advance-requires
 advance-requires c κs =
     ready (c .before .before .before .before .args .p) (entire (c .before .before .before .before)) (reportOf (c .before .before .before .before .args .r)) (length (c .before .before .before .before .args .list .now)) (c .before .before .before .before .pre) (c .before .before .tick-of .ensures)
 
--- src/reports.rt:138:29
+-- src/reports.rt:130:29
 enum-known-r : tie.Need-enum-known-r
 enum-known-r c = search needs
 
--- src/reports.rt:139:9
-mul-port : tie.Need-mul-port
-mul-port c =
+-- src/reports.rt:131:9
+mul-line-ticks : tie.Need-mul-line-ticks
+mul-line-ticks c =
     let k = on-line c in omega arith
 
--- src/reports.rt:139:9
-element-write-port : tie.Need-element-write-port
-element-write-port c =
+-- src/reports.rt:131:9
+array-write-line-ticks : tie.Need-array-write-line-ticks
+array-write-line-ticks c =
     on-line c
 
--- src/reports.rt:141:31
+-- src/reports.rt:133:31
 place-of-requires : tie.Need-place-of-requires
 place-of-requires c κs =
     let k = passes (c .before .before) in (k .some-link, k .links-most, k .rising)
 
--- src/reports.rt:141:26
+-- src/reports.rt:133:26
 enum-known-i : tie.Need-enum-known-i
 enum-known-i c = search needs
 
--- src/reports.rt:142:24
+-- src/reports.rt:134:24
 mul-link : tie.Need-mul-link
 mul-link c =
     let k = in-array c in omega arith
 
--- src/reports.rt:142:24
+-- src/reports.rt:134:24
 element-copy-out-link : tie.Need-element-copy-out-link
 element-copy-out-link c =
     in-array c
 
--- src/reports.rt:143:29
+-- src/reports.rt:135:29
 mul-arrived : tie.Need-mul-arrived
 mul-arrived c =
     let k = in-array (c .before) in omega arith
 
--- src/reports.rt:143:29
+-- src/reports.rt:135:29
 element-copy-out-arrived : tie.Need-element-copy-out-arrived
 element-copy-out-arrived c =
     in-array (c .before)
 
--- src/reports.rt:143:17
+-- src/reports.rt:135:17
 arrived-requires : tie.Need-arrived-requires
 arrived-requires c κs =
     let f = c .before .before .before .before .before .before .before .before in length-most (start f .args .p) (entire (start f)) (time f) (line f) (number f) (len f) (length (start f .args .list .now)) (accepted f)
 
--- src/reports.rt:144:16
+-- src/reports.rt:136:16
 admits-requires : tie.Need-admits-requires
 admits-requires c κs = search needs
 
--- src/reports.rt:145:54
+-- src/reports.rt:148:21
 bag-requires : tie.Need-bag-requires
 bag-requires c κs = search needs
 
--- src/reports.rt:145:77
+-- src/reports.rt:149:21
 wide32-requires : tie.Need-wide32-requires
 wide32-requires c κs = search needs
 
@@ -175,55 +175,49 @@ charge-in-requires : tie.Need-charge-in-requires
 charge-in-requires c κs =
     in-array (c .before .before .before .before .before .before .before)
 
--- src/reports.rt:149:29
+-- src/reports.rt:155:29
 cast-k : tie.Need-cast-k
 cast-k c = search needs
 
--- src/reports.rt:150:36
+-- src/reports.rt:156:36
 mul-settle : tie.Need-mul-settle
 mul-settle c = search needs
 
--- src/reports.rt:150:36
+-- src/reports.rt:156:36
 element-copy-out-settle : tie.Need-element-copy-out-settle
 element-copy-out-settle c =
     in-queues (c .before .before .before .before .before .before .before .before .before .before .before)
 
--- src/reports.rt:150:52
+-- src/reports.rt:156:52
 mul-settle-2 : tie.Need-mul-settle-2
 mul-settle-2 c = search needs
 
--- src/reports.rt:150:52
+-- src/reports.rt:156:52
 element-copy-out-settle-2 : tie.Need-element-copy-out-settle-2
 element-copy-out-settle-2 c =
     in-queues (c .before .before .before .before .before .before .before .before .before .before .before .before)
 
--- src/reports.rt:150:25
+-- src/reports.rt:156:25
 settle-requires : tie.Need-settle-requires
 settle-requires c κs =
     let x = c .before .before .before .before .before in let l = found (filtered x) in let f = framed l in
     rw (charges x) (roomy (start f .args .p) (entire (start f)) (time f) (line f) (number f) (len f) (length (start f .args .list .now)) (accepted f) (place l) (in-table l) (c .before .before .before .before .before .before .before .before .before .before .before .before .before .before .before .before .before .before .before .before .before .before .before .before .before .before .before .before .advance .ensures) (c .before .before .before .before .before .before .before .before .before .before .arrived .result) (ap (λ (k : Frame). k .length) (c .before .before .before .before .before .before .before .before .before .before .arrived .ensures)))
 
--- src/reports.rt:153:21
+-- src/reports.rt:159:21
 mul-kept : tie.Need-mul-kept
 mul-kept c = search needs
 
--- src/reports.rt:153:21
+-- src/reports.rt:159:21
 element-set-from-kept : tie.Need-element-set-from-kept
 element-set-from-kept c =
     in-queues (c .before .before .before .before .before .before .before .before .before .before .before .before .before .before .before)
 
-enum-told : tie.Need-enum-told
-enum-told c = search needs
-
-enum-told-2 : tie.Need-enum-told-2
-enum-told-2 c = search needs
-
--- src/reports.rt:116:1
+-- src/reports.rt:161:17
 same-length : tie.Need-same-length
 same-length c =
     c .before .before .before .before .before .before .before .before .before .before .before .before .before .before .before .before .before .before .before .before .before .before .before .before .before .before .before .before .before .before .advance .kept .1 .1 .1 .1 .0
 
--- src/reports.rt:116:1
+-- src/reports.rt:161:17
 returns : tie.Need-returns
 returns c =
     let x = c .before .before .before .before .before .before .before in let l = found (filtered x) in let f = framed l in
@@ -231,18 +225,24 @@ returns c =
     (found-at (start f .args .p) (entire (start f)) (frame (time f) (line f) (number f) (len f)) (length (start f .args .list .now)) (accepted f) (c .before .before .before .before .before .before .before .before .before .before .before .before .before .before .before .before .before .before .place-of .ensures) (l .before .i .given .1))
     (filter-says (filtered x) ∙ c .before .before .before .before .before .before .before .before .before .before .if1 .taken) (charges x) (c .before .before .before .before .before .if2 .taken) (c .before .settle .result) (rw (c .before .before .before .before .before .before .before .before .before .before .before .before .arrived .ensures) at (c .before .settle .ensures))
 
--- src/reports.rt:116:1
+-- src/reports.rt:161:17
 same-length-2 : tie.Need-same-length-2
 same-length-2 c =
     c .before .before .before .before .before .before .before .before .before .before .before .before .before .before .before .before .before .before .before .before .before .before .before .before .before .advance .kept .1 .1 .1 .1 .0
 
--- src/reports.rt:116:1
+-- src/reports.rt:161:17
 returns-2 : tie.Need-returns-2
 returns-2 c =
     let x = c .before .before in let l = found (filtered x) in let f = framed l in
     is-policed (start f .args .p) (entire (start f)) (time f) (c .before .before .before .before .before .before .before .before .before .before .before .before .before .before .before .before .before .before .before .before .before .before .before .before .before .advance .ensures) (line f) (number f) (len f) (place l) (is-it f) (start f .pre)
     (found-at (start f .args .p) (entire (start f)) (frame (time f) (line f) (number f) (len f)) (length (start f .args .list .now)) (accepted f) (c .before .before .before .before .before .before .before .before .before .before .before .before .before .place-of .ensures) (l .before .i .given .1))
     (filter-says (filtered x) ∙ c .before .before .before .before .before .if1 .taken) (charges x) (c .if2 .left)
+
+enum-told : tie.Need-enum-told
+enum-told c = search needs
+
+enum-told-2 : tie.Need-enum-told-2
+enum-told-2 c = search needs
 
 -- src/reports.rt:116:1
 same-length-3 : tie.Need-same-length-3
@@ -283,8 +283,8 @@ report-spec =
     tick-of-requires
     advance-requires
     enum-known-r
-    mul-port
-    element-write-port
+    mul-line-ticks
+    array-write-line-ticks
     place-of-requires
     enum-known-i
     mul-link
@@ -304,12 +304,12 @@ report-spec =
     settle-requires
     mul-kept
     element-set-from-kept
-    enum-told
-    enum-told-2
     same-length
     returns
     same-length-2
     returns-2
+    enum-told
+    enum-told-2
     same-length-3
     returns-3
     same-length-4
