@@ -14,7 +14,7 @@ use Rattle.model.specs.Units.{lastTick, leastLength, occupied, mostFrames}
 use Rattle.model.specs.Link.{VirtualLink, linkAt, placeOf}
 use Rattle.model.specs.Table.{Table, sizeOf, tableRefusal}
 use Rattle.model.specs.Machine.{Frame, advance, at, queueOf, held, framesHeld}
-use Rattle.model.specs.Report.{Account, Port, blankAccount, accountAt, Report, wait, frame, tickOf, fit, reportChecks, reportRefusal, Judged, judged, admits, arrived, withAccount, withLineTick, judgeReport, refusal, acceptedOr, step, Stepped}
+use Rattle.model.specs.Report.{Port, blankAccount, accountAt, Report, wait, frame, tickOf, fit, reportChecks, reportRefusal, Judged, judged, admits, arrived, withAccount, withLineTick, judgeReport, refusal, acceptedOr, step, Stepped}
 use Rattle.model.proofs.Checks.{all-true, first-zero}
 use Rattle.model.proofs.Stepping.{Timely, Arrives, movedTo, Placed, placed}
 use Rattle.model.proofs.ValidTable.{Valid}
@@ -22,7 +22,6 @@ use Rattle.model.proofs.Fitness.{Fit}
 use Rattle.table.specs.declared.VirtualLink.{VirtualLink as LinkFields}
 use Rattle.table.specs.View.{linkOf, blankFields, linksOf, viewOf}
 use Rattle.table.proofs.Shape.{link-shown, count-shown}
-use Rattle.policing.specs.declared.Account.{Account as AccountRecord}
 use Rattle.policing.specs.declared.Checked.{Checked}
 use Rattle.policing.specs.Check.{accountOf, accountRecord, checkOf}
 use Rattle.scheduler.specs.declared.Frame.{Frame as FrameRecord}

@@ -4,21 +4,17 @@ use mathlib.Core.Option.{Option, none, some}
 use mathlib.Core.List.{List, [], _∷_, _++_, map}
 use Prim.Native.Nat.{ℕ, zero, suc, _+_, _*_, _≤_, _<_, max}
 use native.Mathlib.Omega.{arith}
-use lib.ListN.{length, getD, set, drop, length-map, List·getD-map}
-use lib.Seq.{set-getD, getD-set-same, drop-set-lt}
+use lib.ListN.{length, getD, set, length-map, List·getD-map}
+use lib.Seq.{set-getD, getD-set-same}
 use Rattle.model.specs.Basics.{entries}
 use Rattle.model.specs.Units.{occupied}
-use Rattle.model.specs.Link.{VirtualLink, linkAt, placeOf}
-use Rattle.model.specs.Table.{Table, sizeOf}
 use Rattle.model.specs.Machine.{Frame, Sender, Scheduler, Advance, at, advance, queueOf, queuedLast, bytes, held}
-use Rattle.model.specs.Report.{Account, Port, blankAccount, accountAt, markOf, Report, wait, frame, tickOf, reportRefusal, Judged, judged, withAccount, withLineTick, judgeReport, answered, listed, acceptedOr, step, Stepped}
+use Rattle.model.specs.Report.{Account, Port, blankAccount, markOf, Report, wait, frame, tickOf, reportRefusal, withAccount, withLineTick, judgeReport, answered, listed, acceptedOr, step, Stepped}
 use Rattle.model.proofs.Queues.{bytes-snoc}
 use Rattle.model.proofs.QueueSteps.{advance-clock}
-use Rattle.model.proofs.Stepping.{movedTo, Placed, placed}
-use Rattle.table.specs.View.{linkOf, blankFields, linksOf, viewOf}
-use Rattle.table.proofs.Shape.{link-shown}
+use Rattle.model.proofs.Stepping.{movedTo}
 use Rattle.policing.specs.declared.Account.{Account as AccountRecord}
-use Rattle.policing.specs.Check.{accountOf, accountRecord}
+use Rattle.policing.specs.Check.{accountOf}
 use Rattle.scheduler.specs.declared.Frame.{Frame as FrameRecord}
 use Rattle.scheduler.specs.declared.Queue.{Queue}
 use Rattle.scheduler.specs.declared.Moved.{Moved}
@@ -27,9 +23,8 @@ use Rattle.scheduler.specs.Contracts.{advanceOf, Advanced}
 use Rattle.scheduler.proofs.Shown.{queue-shown, queues-set, length-shown}
 use Rattle.port.specs.declared.Port.{Port as PortRecord}
 use Rattle.port.specs.View.{tableOf, portOf}
-use Rattle.port.specs.Storing.{Stored, Kept}
-use Rattle.port.specs.Contracts.{stepOf, Answered}
-use Rattle.port.proofs.Stores.{entries-set, map-set, getD-entries}
+use Rattle.port.specs.Storing.{Kept}
+use Rattle.port.proofs.Stores.{entries-set, map-set}
 use Rattle.port.proofs.Judged.{storedBy}
 
 -- ---- one queue of the eight after a frame

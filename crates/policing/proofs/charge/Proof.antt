@@ -23,8 +23,8 @@ use sound.WpLaws.{FmC, fmOf, WpFn-mono}
 use denote.RattleType.{owns}
 use denote.Laws.{Is, shows}
 use denote.Memory.{mem}
-use denote.Plain.{uint-vals, uint-tells, uint-makes, bool-makes}
-use denote.Builtin.{u64, bool}
+use denote.Plain.{uint-vals, uint-tells, uint-makes}
+use denote.Builtin.{u64}
 use denote.Ref.{RefT, MutRef, ptr-vals, mut-tells}
 use denote.Signature.{plain}
 use denote.Steps.{opens, closes, owned, peeks, heard, nothing, only}

@@ -1,7 +1,6 @@
 use native.Mathlib.Omega.{arith}
-use mathlib.Core.Path.{_≡_, refl, sym, ap, _∙_}
-use mathlib.Core.Bool.{true}
-use Prim.Native.Nat.{ℕ, _≤_, _<_}
+use mathlib.Core.Path.{_≡_, sym, ap, _∙_}
+use Prim.Native.Nat.{ℕ, _<_}
 use lib.ListN.{length, getD}
 use Rattle.model.specs.Link.{VirtualLink}
 use Rattle.model.specs.Report.{frame}
@@ -13,7 +12,7 @@ use Rattle.port.specs.View.{reportOf}
 use Rattle.port.specs.Charging.{chargeOf}
 use Rattle.port.proofs.Tables.{Passing}
 use Rattle.port.proofs.Whole.{Whole, whole}
-use Rattle.port.proofs.Answers.{NotRefused, is-wait, is-frame, passed, ready, found-at, found-nowhere, line-in, length-most, place-in, priority-in, roomy, reached, waits, arrives-nowhere, is-filtered, is-policed, is-settled}
+use Rattle.port.proofs.Answers.{NotRefused, is-wait, is-frame, passed, ready, found-at, found-nowhere, line-in, length-most, priority-in, roomy, reached, waits, arrives-nowhere, is-filtered, is-policed, is-settled}
 use borrow.Author.Needs.{needs}
 use Rattle.port.proofs.reports.report.Statement.{statement}
 use Rattle.port.proofs.reports.report.Tie as tie
