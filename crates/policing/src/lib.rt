@@ -62,3 +62,12 @@ pub fn police(a: Account, bag: u64, jitter: u64, time: u64) -> Checked
         account: Account { credit, tick: time },
     }
 }
+
+// The account is charged where it stands: the police check of a frame at a tick; whether it passed.
+pub fn charge(a: &mut Account, bag: u64, jitter: u64, time: u64) -> bool
+    ensures { λ r. ⌜ ((v : VirtualLink) → bagOfLink v ≡ bag → v .jitter ≡ jitter → record { passed = r; account = now (a .exit) } ≡ checkOf v (now (a .entry)) time) ⌝ }
+{
+    let c = police(*a, bag, jitter, time);
+    *a = c.account;
+    c.passed
+}

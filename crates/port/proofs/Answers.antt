@@ -1,11 +1,12 @@
--- The answer to a report that is not refused: a wait, a frame whose number no link has, a frame of a link.
+-- The answer to a report that is not refused: a wait; a frame whose number no link has; a frame of a link, which is filtered, policed, or dropped or stored.
 use mathlib.Core.Path.{_≡_, refl, sym, ap, _∙_}
-use mathlib.Core.Bool.{not}
+use mathlib.Core.Bool.{true, false, not}
 use mathlib.Core.Option.{Option, none, some}
 use mathlib.Core.List.{List, [], _∷_, _++_, map}
 use Prim.Native.Nat.{ℕ, zero, suc, _+_, _*_, _≤_, _<_}
 use native.Mathlib.Omega.{arith}
 use borrow.Author.Tests.{eqb-true, not-false}
+use lib.Dec.{leb}
 use lib.ListN.{length, getD, set, drop, length-map, List·getD-map}
 use lib.Seq.{drop-set-lt}
 use Rattle.model.specs.Basics.{entries, check}
@@ -13,7 +14,7 @@ use Rattle.model.specs.Units.{lastTick, leastLength, occupied, mostFrames}
 use Rattle.model.specs.Link.{VirtualLink, linkAt, placeOf}
 use Rattle.model.specs.Table.{Table, sizeOf, tableRefusal}
 use Rattle.model.specs.Machine.{Frame, advance, at, queueOf, held, framesHeld}
-use Rattle.model.specs.Report.{Account, Port, blankAccount, accountAt, Report, wait, frame, tickOf, fit, reportChecks, reportRefusal, Judged, judged, arrived, withAccount, withLineTick, judgeReport, refusal, acceptedOr, step, Stepped}
+use Rattle.model.specs.Report.{Port, blankAccount, accountAt, Report, wait, frame, tickOf, fit, reportChecks, reportRefusal, Judged, judged, admits, arrived, withAccount, withLineTick, judgeReport, refusal, acceptedOr, step, Stepped}
 use Rattle.model.proofs.Checks.{all-true, first-zero}
 use Rattle.model.proofs.Stepping.{Timely, Arrives, movedTo, Placed, placed}
 use Rattle.model.proofs.ValidTable.{Valid}
@@ -21,8 +22,8 @@ use Rattle.model.proofs.Fitness.{Fit}
 use Rattle.table.specs.declared.VirtualLink.{VirtualLink as LinkFields}
 use Rattle.table.specs.View.{linkOf, blankFields, linksOf, viewOf}
 use Rattle.table.proofs.Shape.{link-shown, count-shown}
-use Rattle.policing.specs.declared.Account.{Account as AccountRecord}
-use Rattle.policing.specs.Check.{accountOf, accountRecord}
+use Rattle.policing.specs.declared.Checked.{Checked}
+use Rattle.policing.specs.Check.{accountOf, accountRecord, checkOf}
 use Rattle.scheduler.specs.declared.Frame.{Frame as FrameRecord}
 use Rattle.scheduler.specs.declared.Queue.{Queue}
 use Rattle.scheduler.specs.declared.Moved.{Moved}
@@ -36,11 +37,12 @@ use Rattle.lookup.specs.declared.Place.the-variants.{At, Nowhere}
 use Rattle.port.specs.declared.Answer.{Answer as AnswerRecord}
 use Rattle.port.specs.declared.Report.{Report as ReportRecord}
 use Rattle.port.specs.declared.Report.the-variants.{Wait, Frame as FrameOf}
-use Rattle.port.specs.declared.reports.Judgement.{Judgement}
+use Rattle.port.specs.declared.charging.Charged.{Charged}
 use Rattle.port.specs.declared.reports.Settled.{Settled}
 use Rattle.port.specs.View.{tableOf, portOf, reportOf}
 use Rattle.lookup.specs.Places.{Rising, Found}
-use Rattle.port.specs.Judgement.{judgementOf, Kept, Roomy, Settles}
+use Rattle.port.specs.Charging.{chargeOf}
+use Rattle.port.specs.Storing.{verdictIf, Roomy, Settles}
 use Rattle.port.specs.Contracts.{stepOf, Answered}
 use Rattle.lookup.proofs.Tables.{Passing, passing, counts-pass}
 use Rattle.port.proofs.Whole.{Whole}
@@ -48,8 +50,8 @@ use Rattle.port.proofs.Accepted.{accepted}
 use Rattle.port.proofs.Accepted.{arrives as arrives-at-line}
 use Rattle.port.proofs.Room.{fewer-with-room}
 use Rattle.port.proofs.Stores.{getD-entries}
-use Rattle.port.proofs.Judged.{storedBy, judgementAt, judged-at, judged-nowhere}
-use Rattle.port.proofs.Reported.{made, there, waited, ticked, settled}
+use Rattle.port.proofs.Judged.{storedBy, judged-nowhere, judged-filtered, judged-policed, judged-passed}
+use Rattle.port.proofs.Reported.{made, there, waited, ticked, charged, settled}
 
 -- not refused, being lent a list of that length
 abbrev pub NotRefused : PortRecord → Report → ℕ → Type 0
@@ -217,50 +219,93 @@ module _ (p : PortRecord) (w : Whole p) (time : ℕ) {before after : List ℕ} {
       account-is : i < p .table .count → accountAt (entries blankAccount (p .table .count) (map accountOf (p .accounts))) i ≡ accountOf (getD (p .accounts) i (accountRecord blankAccount))
       account-is h = getD-entries blankAccount (p .table .count) (map accountOf (p .accounts)) i h ∙ List·getD-map accountOf (p .accounts) i (accountRecord blankAccount)
 
-      module _ (ok : NotRefused p (frame time line number len) (length before)) (place : placeOf number (linksOf (p .table)) ≡ some i) (s : Settled)
-          (settles : Settles (linkOf (getD (p .table .numbers) i 0) of-link) (getD (p .accounts) i (accountRecord blankAccount)) (getD (m .queues) (of-link .priority) blankQueue)
-          (getD (p .table .sizes) (of-link .priority) 0) line it s) where
+      -- the port that has advanced, with its line's tick set
+      abbrev pub reached : PortRecord
+      reached = made p time m (m .queues) lines' (p .accounts)
+
+      abbrev the-link : VirtualLink
+      the-link = linkOf (getD (p .table .numbers) i 0) of-link
+
+      module _ (ok : NotRefused p (frame time line number len) (length before)) (place : placeOf number (linksOf (p .table)) ≡ some i) where
         in-table : i < p .table .count
         in-table = omega (arith, placed number (linksOf (p .table)) i place .in-range, count-shown (p .table))
 
-        is-link : linkAt (linksOf (p .table)) i ≡ linkOf (getD (p .table .numbers) i 0) of-link
+        in-accounts : i < length (p .accounts)
+        in-accounts = omega (arith, place-in p w time line number len (length before) ok i in-table, w .accounts)
+
+        is-link : linkAt (linksOf (p .table)) i ≡ the-link
         is-link = link-is p w time line number len (length before) ok i in-table
 
         number-is : getD (p .table .numbers) i 0 ≡ number
         number-is = sym (ap (λ (v : VirtualLink). v .number) is-link) ∙ placed number (linksOf (p .table)) i place .number-is
 
-        judged-is : record { verdict = s .verdict; account = s .account } ≡ judgementAt (tableOf p) (withLineTick (there p time) line time) time line number len i
-        unfolding viewOf portOf
-        judged-is = rw (is-link, account-is in-table, ← moves .queues, queue-shown) (settles .judged)
+        abbrev after-line : Port
+        after-line = withLineTick (there p time) line time
 
-        abbrev afterwards : ℕ → Frame → Judged
-        afterwards k f = judged (storedBy (s .verdict) (withAccount (withLineTick (there p time) line time) i (accountOf (s .account))) k f) (s .verdict)
+        filtered-answer : admits the-link line len ≡ false → Answered p (frame time line number len) before after (answer 1 m reached)
+        unfolding judgeReport tickOf viewOf
+        filtered-answer e =
+            answers p (frame time line number len) ok moves (judged after-line 1) reached
+            (judged-filtered (tableOf p) after-line time line number len i place (rw is-link e))
+            (ticked p moves (accepted p (frame time line number len) (length before) ok .ready .later) line (line-has p w time line number len (length before) ok)) refl
+            (drop-set-lt (p .table .lines) (p .«line_ticks») line time (line-below p w time line number len (length before) ok)) refl
 
-        model-judged : judgeReport (tableOf p) (there p time) (frame time line number len) ≡ afterwards (of-link .priority) (frameOf it)
-        unfolding judgeReport viewOf
-        model-judged =
-            judged-at (tableOf p) (withLineTick (there p time) line time) time line number len i place
-            ∙ ap (λ (j : Judgement). judged (storedBy (j .verdict) (withAccount (withLineTick (there p time) line time) i (accountOf (j .account))) (linkAt (linksOf (p .table)) i .priority) (arrived number len time)) (j .verdict))
-            (sym judged-is)
-            ∙ ap (λ (v : VirtualLink). afterwards (v .priority) (arrived number len time)) is-link
-            ∙ ap (λ (n : ℕ). afterwards (of-link .priority) (arrived n len time)) (sym number-is)
+        module _ (let-through : admits the-link line len ≡ true) {c : Checked} (checks : c ≡ checkOf the-link (getD (p .accounts) i (accountRecord blankAccount)) time) where
+          model-admits : admits (linkAt (linksOf (p .table)) i) line len ≡ true
+          model-admits = rw is-link let-through
 
-        link-answer : Answered p (frame time line number len) before after (answer (s .verdict) m (made p time m (set (m .queues) (of-link .priority) (s .queue)) lines' (set (p .accounts) i (s .account))))
-        unfolding tickOf
-        link-answer =
-            answers p (frame time line number len) ok moves (afterwards (of-link .priority) (frameOf it)) (made p time m (set (m .queues) (of-link .priority) (s .queue)) lines' (set (p .accounts) i (s .account)))
-            model-judged
-            (settled p moves (accepted p (frame time line number len) (length before) ok .ready .later) line (line-has p w time line number len (length before) ok) i (of-link .priority) (s .verdict) (s .account) it (s .queue)
-            (omega (arith, place-in p w time line number len (length before) ok i in-table, w .accounts)) (priority-in p w time line number len (length before) ok i in-table) (settles .queue))
-            refl
-            (drop-set-lt (p .table .lines) (p .«line_ticks») line time (line-below p w time line number len (length before) ok))
-            (drop-set-lt (p .table .count) (p .accounts) i (s .account) in-table)
+          model-checks : c ≡ checkOf (linkAt (linksOf (p .table)) i) (accountRecord (accountAt (after-line .accounts) i)) time
+          unfolding portOf
+          model-checks = rw (is-link, account-is in-table) checks
 
-      pub arrives-at : {r : Report} → r ≡ frame time line number len → NotRefused p r (length before) → placeOf number (linksOf (p .table)) ≡ some i → (s : Settled) →
-          Settles (linkOf (getD (p .table .numbers) i 0) of-link) (getD (p .accounts) i (accountRecord blankAccount)) (getD (m .queues) (of-link .priority) blankQueue)
-          (getD (p .table .sizes) (of-link .priority) 0) line it s →
-          Answered p r before after (answer (s .verdict) m (made p time m (set (m .queues) (of-link .priority) (s .queue)) lines' (set (p .accounts) i (s .account))))
-      arrives-at e ok place s settles = rw e (link-answer (rw e at ok) place s settles)
+          accounts-left : drop (p .table .count) (set (p .accounts) i (c .account)) ≡ drop (p .table .count) (p .accounts)
+          accounts-left = drop-set-lt (p .table .count) (p .accounts) i (c .account) in-table
+
+          policed-answer : c .passed ≡ false → Answered p (frame time line number len) before after (answer 2 m (made p time m (m .queues) lines' (set (p .accounts) i (c .account))))
+          unfolding judgeReport tickOf viewOf
+          policed-answer e =
+              answers p (frame time line number len) ok moves (judged (withAccount after-line i (accountOf (c .account))) 2) (made p time m (m .queues) lines' (set (p .accounts) i (c .account)))
+              (judged-policed (tableOf p) after-line time line number len i place model-admits model-checks e)
+              (charged p moves (accepted p (frame time line number len) (length before) ok .ready .later) line (line-has p w time line number len (length before) ok) i (c .account) in-accounts) refl
+              (drop-set-lt (p .table .lines) (p .«line_ticks») line time (line-below p w time line number len (length before) ok)) accounts-left
+
+          module _ (paid : c .passed ≡ true) (s : Settled) (settles : Settles (getD (m .queues) (of-link .priority) blankQueue) (getD (p .table .sizes) (of-link .priority) 0) it s) where
+            abbrev afterwards : ℕ → Frame → Judged
+            afterwards k f = judged (storedBy (s .verdict) (withAccount after-line i (accountOf (c .account))) k f) (s .verdict)
+
+            verdict-is : s .verdict ≡ verdictIf (leb (held (queueOf (after-line .scheduler .queues) (linkAt (linksOf (p .table)) i .priority)) + occupied len) (sizeOf (tableOf p) (linkAt (linksOf (p .table)) i .priority)))
+            unfolding viewOf portOf
+            verdict-is = rw (is-link, ← moves .queues, queue-shown) (settles .verdict)
+
+            model-judged : judgeReport (tableOf p) (there p time) (frame time line number len) ≡ afterwards (of-link .priority) (frameOf it)
+            unfolding judgeReport viewOf
+            model-judged =
+                judged-passed (tableOf p) after-line time line number len i place model-admits model-checks paid verdict-is
+                ∙ ap (λ (v : VirtualLink). afterwards (v .priority) (arrived number len time)) is-link
+                ∙ ap (λ (n : ℕ). afterwards (of-link .priority) (arrived n len time)) (sym number-is)
+
+            settled-answer : Answered p (frame time line number len) before after (answer (s .verdict) m (made p time m (set (m .queues) (of-link .priority) (s .queue)) lines' (set (p .accounts) i (c .account))))
+            unfolding tickOf
+            settled-answer =
+                answers p (frame time line number len) ok moves (afterwards (of-link .priority) (frameOf it)) (made p time m (set (m .queues) (of-link .priority) (s .queue)) lines' (set (p .accounts) i (c .account)))
+                model-judged
+                (settled p moves (accepted p (frame time line number len) (length before) ok .ready .later) line (line-has p w time line number len (length before) ok) i (of-link .priority) (s .verdict) (c .account) it (s .queue)
+                in-accounts (priority-in p w time line number len (length before) ok i in-table) (settles .queue))
+                refl
+                (drop-set-lt (p .table .lines) (p .«line_ticks») line time (line-below p w time line number len (length before) ok))
+                accounts-left
+
+      module _ {r : Report} (is-it : r ≡ frame time line number len) (ok : NotRefused p r (length before)) (place : placeOf number (linksOf (p .table)) ≡ some i) where
+        pub is-filtered : admits the-link line len ≡ false → Answered p r before after (answer 1 m reached)
+        is-filtered e = rw is-it (filtered-answer (rw is-it at ok) place e)
+
+        module _ (let-through : admits the-link line len ≡ true) {x : Charged} (charges : x ≡ chargeOf the-link reached i time) where
+          pub is-policed : x .passed ≡ false → Answered p r before after (answer 2 m (made p time m (m .queues) lines' (x .port .accounts)))
+          is-policed e = rw (is-it, charges) (policed-answer (rw is-it at ok) place let-through refl (rw charges at e))
+
+          pub is-settled : x .passed ≡ true → (s : Settled) → Settles (getD (m .queues) (of-link .priority) blankQueue) (getD (p .table .sizes) (of-link .priority) 0) it s →
+              Answered p r before after (answer (s .verdict) m (made p time m (set (m .queues) (of-link .priority) (s .queue)) lines' (x .port .accounts)))
+          is-settled e s settles = rw (is-it, charges) (settled-answer (rw is-it at ok) place let-through refl (rw charges at e) s settles)
 
 -- ---- a report that is refused
 pub refuses : {p : PortRecord} {r : Report} {before : List ℕ} {n : ℕ} → n ≡ reportRefusal (tableOf p) (portOf p) r (length before) → (n ≡ 0 → ⊥) →

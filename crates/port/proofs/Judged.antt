@@ -1,21 +1,19 @@
--- The model's verdict on a frame, by the place of its number.
-use mathlib.Core.Path.{_≡_, refl, sym, ap, _∙_}
-use mathlib.Core.Bool.{Bool, true, false, cond}
-use mathlib.Core.Option.{Option, none, some}
-use mathlib.Core.List.{List, [], _∷_, _++_}
-use Prim.Native.Nat.{ℕ, zero, suc, _+_, _≤_, max}
+-- The model's verdict on a frame, by the place of its number, the filter, the police check and the room.
+use mathlib.Core.Path.{_≡_, refl}
+use mathlib.Core.Bool.{Bool, true, false}
+use mathlib.Core.Option.{none, some}
+use Prim.Native.Nat.{ℕ, zero, suc, _+_, max}
+use native.Mathlib.Omega.{arith}
 use lib.Dec.{leb}
-use lib.ListN.{length, getD, set}
-use lib.Seq.{set-getD}
+use lib.ListN.{set}
 use Rattle.model.specs.Units.{occupied}
 use Rattle.model.specs.Link.{VirtualLink, bag, linkAt, placeOf}
 use Rattle.model.specs.Table.{Table, sizeOf}
 use Rattle.model.specs.Machine.{Frame, queueOf, queuedLast, stored, held}
-use Rattle.model.specs.Report.{Account, Port, blankAccount, accountAt, markOf, Judged, judged, admits, admitted, replenished, charged, withAccount, hasRoom, passedIf, judge, arrived}
-use Rattle.model.specs.Report.{storedIf as storedPortIf}
-use Rattle.policing.specs.Check.{accountOf, accountRecord}
-use Rattle.port.specs.declared.reports.Judgement.{Judgement}
-use Rattle.port.specs.Judgement.{storedIf, passedIf as judgedIf, admittedIf, judgementOf}
+use Rattle.model.specs.Report.{Account, Port, accountAt, markOf, Judged, judged, admits, admitted, replenished, charged, withAccount, hasRoom, passedIf, storedIf, judge, arrived}
+use Rattle.policing.specs.declared.Checked.{Checked}
+use Rattle.policing.specs.Check.{accountOf, accountRecord, checkedIf, checkOf}
+use Rattle.port.specs.Storing.{verdictIf}
 
 -- the port that a frame with that verdict leaves
 unfoldable pub storedBy : ℕ → Port → ℕ → Frame → Port
@@ -35,35 +33,50 @@ module _ (t : Table) (s : Port) (time line number len i : ℕ) where
   abbrev it : Frame
   it = arrived number len time
 
-  -- what the link makes of the frame
-  abbrev pub judgementAt : Judgement
-  judgementAt = judgementOf v (accountRecord (accountAt (s .accounts) i)) (held (queueOf (s .scheduler .queues) (v .priority))) (sizeOf t (v .priority)) time line len
+  abbrev pub modelJudged : Judged
+  modelJudged = judge t s it (admitted t line len (placeOf number (t .links)))
 
-  abbrev settledPort : Judgement → Judged
-  settledPort j = judged (storedBy (j .verdict) (withAccount s i (accountOf (j .account))) (v .priority) it) (j .verdict)
-
-  by-room : (x : Bool) (a : Account) → storedPortIf x (withAccount s i a) (v .priority) it ≡ settledPort (storedIf x a)
-  unfolding storedPortIf storedIf storedBy
-  by-room true a = refl
-  by-room false a = refl
-
-  by-credit : (x : Bool) (a : Account) → passedIf x t s i a it ≡ settledPort (judgedIf x (leb (held (queueOf (s .scheduler .queues) (v .priority)) + occupied len) (sizeOf t (v .priority))) v a)
-  unfolding passedIf judgedIf hasRoom storedBy
-  by-credit true a = by-room (leb (held (queueOf (s .scheduler .queues) (v .priority)) + occupied len) (sizeOf t (v .priority))) (charged v a)
-  by-credit false a = refl
-
-  unset : withAccount s i (accountAt (s .accounts) i) ≡ s
-  unset = ap (λ (l : List Account). record { scheduler = s .scheduler; marks = s .marks; lineTicks = s .lineTicks; accounts = l }) (set-getD (s .accounts) i blankAccount)
-
-  by-filter : (x : Bool) → admits v line len ≡ x → judge t s it (cond x (some i) none) ≡ settledPort judgementAt
-  unfolding judge judgementOf admittedIf storedBy
-  by-filter true e = rw e (by-credit (leb (bag v) (replenished v (accountAt (s .accounts) i) time .credit)) (replenished v (accountAt (s .accounts) i) time))
-  by-filter false e = rw e (ap (λ (z : Port). judged z 1) (sym unset))
-
-  pub judged-at : placeOf number (t .links) ≡ some i → judge t s it (admitted t line len (placeOf number (t .links))) ≡ settledPort judgementAt
-  unfolding admitted
-  judged-at e = rw e (by-filter (admits v line len) refl)
-
-  pub judged-nowhere : placeOf number (t .links) ≡ none → judge t s it (admitted t line len (placeOf number (t .links))) ≡ judged s 1
+  pub judged-nowhere : placeOf number (t .links) ≡ none → modelJudged ≡ judged s 1
   unfolding admitted judge
   judged-nowhere e = rw e
+
+  module _ (place : placeOf number (t .links) ≡ some i) where
+    pub judged-filtered : admits v line len ≡ false → modelJudged ≡ judged s 1
+    unfolding admitted judge
+    judged-filtered e = rw (place, e)
+
+    module _ (let-through : admits v line len ≡ true) {c : Checked} (checked : c ≡ checkOf v (accountRecord (accountAt (s .accounts) i)) time) where
+      abbrev renewed : Account
+      renewed = replenished v (accountAt (s .accounts) i) time
+
+      by-credit : modelJudged ≡ passedIf (leb (bag v) (renewed .credit)) t s i renewed it
+      unfolding admitted judge
+      by-credit = rw (place, let-through)
+
+      pub judged-policed : c .passed ≡ false → modelJudged ≡ judged (withAccount s i (accountOf (c .account))) 2
+      unfolding checkOf checkedIf passedIf
+      judged-policed declined = rw by-credit (go (leb (bag v) (renewed .credit)) checked)
+        where
+          go : (x : Bool) → c ≡ checkedIf x v renewed → passedIf x t s i renewed it ≡ judged (withAccount s i (accountOf (c .account))) 2
+          go true e = absurd (let z : true ≡ false = cc in let w : _≡_ {A = ℕ} 0 1 = cc in omega arith)
+          go false e = rw e
+
+      -- the port with the account charged, in which the frame is then stored or not
+      abbrev pub chargedPort : Port
+      chargedPort = withAccount s i (accountOf (c .account))
+
+      by-room : (x : Bool) → storedIf x chargedPort (v .priority) it ≡ judged (storedBy (verdictIf x) chargedPort (v .priority) it) (verdictIf x)
+      unfolding storedIf storedBy verdictIf
+      by-room true = refl
+      by-room false = refl
+
+      pub judged-passed : c .passed ≡ true → {n : ℕ} → n ≡ verdictIf (leb (held (queueOf (s .scheduler .queues) (v .priority)) + occupied len) (sizeOf t (v .priority))) →
+          modelJudged ≡ judged (storedBy n chargedPort (v .priority) it) n
+      unfolding checkOf checkedIf passedIf hasRoom
+      judged-passed paid e = rw (by-credit, e) (go (leb (bag v) (renewed .credit)) checked)
+        where
+          go : (x : Bool) → c ≡ checkedIf x v renewed → passedIf x t s i renewed it
+              ≡ judged (storedBy (verdictIf (leb (held (queueOf (s .scheduler .queues) (v .priority)) + occupied len) (sizeOf t (v .priority)))) chargedPort (v .priority) it)
+              (verdictIf (leb (held (queueOf (s .scheduler .queues) (v .priority)) + occupied len) (sizeOf t (v .priority))))
+          go true e = rw (← by-room (leb (held (queueOf (s .scheduler .queues) (v .priority)) + occupied len) (sizeOf t (v .priority)))) (rw e)
+          go false e = absurd (let z : true ≡ false = cc in let w : _≡_ {A = ℕ} 0 1 = cc in omega arith)

@@ -12,3 +12,4 @@ pub mod Reported
 pub mod Answers
 pub mod FreshPort
 pub mod Chained
+pub mod Element

@@ -6,7 +6,7 @@ use Rattle.scheduler.specs.declared.Frame.{Frame as FrameRecord}
 use Rattle.scheduler.specs.declared.Queue.{Queue}
 use Rattle.scheduler.specs.View.{framesOf}
 use Rattle.scheduler.specs.Contracts.{Pushed}
-use Rattle.port.specs.Judgement.{Stored}
+use Rattle.port.specs.Storing.{Stored}
 
 -- the mark is no part of the frames
 re-marked : (q : Queue) (m : ℕ) → framesOf (record { count = q .count; mark = m; frames = q .frames }) ≡ framesOf q

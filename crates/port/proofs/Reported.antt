@@ -4,21 +4,17 @@ use mathlib.Core.Option.{Option, none, some}
 use mathlib.Core.List.{List, [], _∷_, _++_, map}
 use Prim.Native.Nat.{ℕ, zero, suc, _+_, _*_, _≤_, _<_, max}
 use native.Mathlib.Omega.{arith}
-use lib.ListN.{length, getD, set, drop, length-map, List·getD-map}
-use lib.Seq.{set-getD, getD-set-same, drop-set-lt}
+use lib.ListN.{length, getD, set, length-map, List·getD-map}
+use lib.Seq.{set-getD, getD-set-same}
 use Rattle.model.specs.Basics.{entries}
 use Rattle.model.specs.Units.{occupied}
-use Rattle.model.specs.Link.{VirtualLink, linkAt, placeOf}
-use Rattle.model.specs.Table.{Table, sizeOf}
 use Rattle.model.specs.Machine.{Frame, Sender, Scheduler, Advance, at, advance, queueOf, queuedLast, bytes, held}
-use Rattle.model.specs.Report.{Account, Port, blankAccount, accountAt, markOf, Report, wait, frame, tickOf, reportRefusal, Judged, judged, withAccount, withLineTick, judgeReport, answered, listed, acceptedOr, step, Stepped}
+use Rattle.model.specs.Report.{Account, Port, blankAccount, markOf, Report, wait, frame, tickOf, reportRefusal, withAccount, withLineTick, judgeReport, answered, listed, acceptedOr, step, Stepped}
 use Rattle.model.proofs.Queues.{bytes-snoc}
 use Rattle.model.proofs.QueueSteps.{advance-clock}
-use Rattle.model.proofs.Stepping.{movedTo, Placed, placed}
-use Rattle.table.specs.View.{linkOf, blankFields, linksOf, viewOf}
-use Rattle.table.proofs.Shape.{link-shown}
+use Rattle.model.proofs.Stepping.{movedTo}
 use Rattle.policing.specs.declared.Account.{Account as AccountRecord}
-use Rattle.policing.specs.Check.{accountOf, accountRecord}
+use Rattle.policing.specs.Check.{accountOf}
 use Rattle.scheduler.specs.declared.Frame.{Frame as FrameRecord}
 use Rattle.scheduler.specs.declared.Queue.{Queue}
 use Rattle.scheduler.specs.declared.Moved.{Moved}
@@ -26,13 +22,10 @@ use Rattle.scheduler.specs.View.{frameOf, blankQueue, framesOf, queuesOf, marks
 use Rattle.scheduler.specs.Contracts.{advanceOf, Advanced}
 use Rattle.scheduler.proofs.Shown.{queue-shown, queues-set, length-shown}
 use Rattle.port.specs.declared.Port.{Port as PortRecord}
-use Rattle.port.specs.declared.reports.Judgement.{Judgement}
-use Rattle.port.specs.declared.reports.Settled.{Settled}
 use Rattle.port.specs.View.{tableOf, portOf}
-use Rattle.port.specs.Judgement.{judgementOf, Stored, Kept, Settles}
-use Rattle.port.specs.Contracts.{stepOf, Answered}
-use Rattle.port.proofs.Stores.{entries-set, map-set, getD-entries}
-use Rattle.port.proofs.Judged.{storedBy, judgementAt, judged-at, judged-nowhere}
+use Rattle.port.specs.Storing.{Kept}
+use Rattle.port.proofs.Stores.{entries-set, map-set}
+use Rattle.port.proofs.Judged.{storedBy}
 
 -- ---- one queue of the eight after a frame
 module _ (qs : List Queue) (k : ℕ) (eight : length qs ≡ 8) (below : k < 8) (f : FrameRecord) where
@@ -99,16 +92,21 @@ module _ (p : PortRecord) {time : ℕ} {before after : List ℕ} {m : Moved} (mo
         moved-parts (entries 0 (p .table .lines) (set (p .«line_ticks») line time)) (entries blankAccount (p .table .count) (map accountOf (p .accounts)))
         ∙ rw (entries-set 0 (p .table .lines) (p .«line_ticks») line time line-in)
 
+    pub charged : (i : ℕ) (a : AccountRecord) → i < length (p .accounts) →
+        portOf (made p time m (m .queues) (set (p .«line_ticks») line time) (set (p .accounts) i a)) ≡ withAccount (withLineTick (there p time) line time) i (accountOf a)
+    unfolding portOf
+    charged i a i-in =
+        moved-parts (entries 0 (p .table .lines) (set (p .«line_ticks») line time)) (entries blankAccount (p .table .count) (map accountOf (set (p .accounts) i a)))
+        ∙ rw (
+          entries-set 0 (p .table .lines) (p .«line_ticks») line time line-in,
+          map-set accountOf (p .accounts) i a,
+          entries-set blankAccount (p .table .count) (map accountOf (p .accounts)) i (accountOf a) (rw length-map i-in),
+        )
+
     pub settled : (i k n : ℕ) (a : AccountRecord) (f : FrameRecord) (r : Queue) → i < length (p .accounts) → k < 8 → Kept n (getD (m .queues) k blankQueue) f r →
         portOf (made p time m (set (m .queues) k r) (set (p .«line_ticks») line time) (set (p .accounts) i a)) ≡ storedBy n (withAccount (withLineTick (there p time) line time) i (accountOf a)) k (frameOf f)
     unfolding portOf
     settled i k n a f r i-in k-in kept =
         kept-shown (m .queues) k (moves .eight) k-in f time (senderOf (m .sender)) (entries 0 (p .table .lines) (set (p .«line_ticks») line time))
         (entries blankAccount (p .table .count) (map accountOf (set (p .accounts) i a))) n r kept
-        ∙ ap (λ (s : Port). storedBy n s k (frameOf f))
-        (moved-parts (entries 0 (p .table .lines) (set (p .«line_ticks») line time)) (entries blankAccount (p .table .count) (map accountOf (set (p .accounts) i a)))
-        ∙ rw (
-          entries-set 0 (p .table .lines) (p .«line_ticks») line time line-in,
-          map-set accountOf (p .accounts) i a,
-          entries-set blankAccount (p .table .count) (map accountOf (p .accounts)) i (accountOf a) (rw length-map i-in),
-        ))
+        ∙ ap (λ (s : Port). storedBy n s k (frameOf f)) (charged i a i-in)

@@ -1,36 +1,32 @@
--- A frame is judged by its link, and its queue is as the verdict says.
+-- A frame that passed the police check is dropped, or stored in its queue.
 use mathlib.Core.Path.{_≡_, refl, sym, ap, _∙_}
-use mathlib.Core.List.{List}
-use Prim.Native.Nat.{ℕ, zero, suc, _+_, _≤_, _<_}
-use native.Mathlib.Omega.{arith}
+use mathlib.Core.Bool.{Bool, true, false}
+use Prim.Native.Nat.{ℕ, _+_, _≤_, _<_}
+use lib.Dec.{leb}
+use borrow.Author.Tests.{leb-true}
 use Rattle.model.specs.Units.{occupied}
-use Rattle.model.specs.Link.{VirtualLink}
 use Rattle.model.specs.Machine.{held}
-use Rattle.policing.specs.declared.Account.{Account as AccountRecord}
 use Rattle.scheduler.specs.declared.Frame.{Frame as FrameRecord}
 use Rattle.scheduler.specs.declared.Queue.{Queue}
 use Rattle.scheduler.specs.View.{framesOf}
-use Rattle.port.specs.declared.reports.Judgement.{Judgement}
-use Rattle.port.specs.Judgement.{judgementOf, Stored, Kept, Roomy, Settles}
-use Rattle.port.proofs.Judging.{verdict-room}
+use Rattle.port.specs.Storing.{verdictIf, Stored, Roomy, Settles}
 
-untouched : (n : ℕ) (q : Queue) (f : FrameRecord) → (n ≡ 0 → ⊥) → Kept n q f q
-untouched zero q f h = absurd (h refl)
-untouched (suc n) q f h = refl
+module _ (q : Queue) (size : ℕ) (f : FrameRecord) {h more s : ℕ} (holds : h ≡ held (framesOf q)) (needs : more ≡ occupied (f .length)) (sized : s ≡ size)
+    {room : Bool} (tested : room ≡ leb (h + more) s) where
+  is-tested : room ≡ leb (held (framesOf q) + occupied (f .length)) size
+  is-tested = tested ∙ rw (holds, needs, sized)
 
-module _ (v : VirtualLink) (a : AccountRecord) (q : Queue) (size line : ℕ) (f : FrameRecord) {j : Judgement} {h : ℕ} (holds : h ≡ held (framesOf q))
-    (judged : j ≡ judgementOf v a h size (f .arrival) line (f .length)) where
-  pub settles-not : (j .verdict ≡ 0 → ⊥) → Settles v a q size line f (record { verdict = j .verdict; account = j .account; queue = q })
-  settles-not z = record { judged = rw holds at judged; queue = untouched (j .verdict) q f z }
+  pub settles-not : room ≡ false → Settles q size f (record { verdict = 3; queue = q })
+  unfolding verdictIf
+  settles-not z = record { verdict = ap verdictIf (sym z ∙ is-tested); queue = refl }
 
-  module _ (z : j .verdict ≡ 0) where
-    pub has-room : h + occupied (f .length) ≤ size
-    has-room = verdict-room v a h size (f .arrival) line (f .length) judged z
+  module _ (z : room ≡ true) where
+    pub has-room : h + more ≤ s
+    has-room = leb-true (h + more) s (sym tested ∙ z)
 
     pub has-place : Roomy q size f → q .count < 195
-    has-place r = r .room (rw (← holds) has-room)
+    has-place r = r .room (leb-true (held (framesOf q) + occupied (f .length)) size (sym is-tested ∙ z))
 
-    pub settles : {o : ℕ} {r : Queue} → o ≡ occupied (f .length) → Stored q f (h + o) r → Settles v a q size line f (record { verdict = 0; account = j .account; queue = r })
-    settles {o} {r} e s =
-        let same : _≡_ {A = Judgement} (record { verdict = 0; account = j .account }) j = ap (λ (n : ℕ). record { verdict = n; account = j .account }) (sym z) in
-        record { judged = same ∙ rw holds at judged; queue = rw (← holds, ← e) s }
+    pub settles : {r : Queue} → Stored q f (h + more) r → Settles q size f (record { verdict = 0; queue = r })
+    unfolding verdictIf
+    settles {r} x = record { verdict = ap verdictIf (sym z ∙ is-tested); queue = rw (← holds, ← needs) x }

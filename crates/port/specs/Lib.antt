@@ -2,6 +2,7 @@ pub mod View
 pub mod Contracts
 pub mod Fitness
 pub mod Refusals
-pub mod Judgement
+pub mod Charging
+pub mod Storing
 pub mod Resting
 pub mod Calls

@@ -1,4 +1,5 @@
-// An output port: fitness, the fresh port, frame and wait reports.
+// An output port: refusals, the fresh port, frame and wait reports.
+mod charging;
 mod refusals;
 mod reports;
 mod resting;

@@ -2,9 +2,9 @@
 use crate::Answer;
 use crate::Port;
 use crate::Report;
+use crate::charging;
 use crate::refusals;
 use lookup::Place;
-use policing::Account;
 use scheduler::Frame;
 use scheduler::Queue;
 use table::VirtualLink;
@@ -12,25 +12,16 @@ ghost use mathlib.Core.Path.{_≡_};
 ghost use Prim.Native.Nat.{ℕ, _+_, _≤_, _<_, _^_, max};
 ghost use lib.Dec.{leb};
 ghost use lib.ListN.{length};
-ghost use Rattle.model.specs.Units.{mostFrames, occupied};
-ghost use Rattle.model.specs.Machine.{held as heldBytes};
+ghost use Rattle.model.specs.Units.{mostFrames};
 ghost use Rattle.model.specs.Report.{admits as admitsFrame, reportRefusal};
 ghost use Rattle.table.specs.View.{linkOf};
-ghost use Rattle.scheduler.specs.View.{framesOf};
 ghost use Rattle.port.specs.View.{tableOf, portOf, reportOf};
-ghost use Rattle.port.specs.Judgement.{judgementOf, Stored, Roomy, Settles};
+ghost use Rattle.port.specs.Storing.{Stored, Roomy, Settles};
 ghost use Rattle.port.specs.Contracts.{Answered};
 
-// The verdict of a frame whose number a virtual link has, and the link's account after it.
-pub(crate) struct Judgement {
-    pub verdict: u32,
-    pub account: Account,
-}
-
-// The same with the queue of the link's priority after it.
+// The verdict of a frame that passed the police check, and the queue of its link's priority after it.
 pub(crate) struct Settled {
     pub verdict: u32,
-    pub account: Account,
     pub queue: Queue,
 }
 
@@ -78,44 +69,6 @@ fn has_room(held: u64, more: u64, size: u64) -> bool
     held <= size - more
 }
 
-// Filtered (1), policed (2), dropped (3) or stored (0).
-fn judge(
-    link: VirtualLink,
-    account: Account,
-    held: u64,
-    size: u32,
-    time: u64,
-    line: u64,
-    length: u16,
-) -> Judgement
-    ensures { λ r. ⌜ ((n : ℕ) → r ≡ judgementOf (linkOf n link) account held size time line length) ⌝ }
-{
-    if !admits(link, line, length) {
-        return Judgement {
-            verdict: 1,
-            account,
-        };
-    }
-    let checked = policing::police(account, table::bag(link.code), wide32(link.jitter), time);
-    let after = checked.account;
-    if !checked.passed {
-        return Judgement {
-            verdict: 2,
-            account: after,
-        };
-    }
-    if !has_room(held, scheduler::occupancy(length), wide32(size)) {
-        return Judgement {
-            verdict: 3,
-            account: after,
-        };
-    }
-    Judgement {
-        verdict: 0,
-        account: after,
-    }
-}
-
 // The queue with the frame last; the mark rises to the bytes that it then holds if they are more.
 fn stored(q: Queue, f: Frame, bytes: u64) -> Queue
     requires { ⌜ (q .count < mostFrames) × (bytes < 2 ^ 32) ⌝ }
@@ -127,32 +80,19 @@ fn stored(q: Queue, f: Frame, bytes: u64) -> Queue
     r
 }
 
-// The frame is judged by its link, and stored if the verdict is 0.
-fn settle(
-    link: VirtualLink,
-    account: Account,
-    queue: Queue,
-    size: u32,
-    line: u64,
-    f: Frame,
-) -> Settled
+// Dropped (3), or stored (0).
+fn settle(queue: Queue, size: u32, f: Frame) -> Settled
     requires { ⌜ Roomy queue size f ⌝ }
-    ensures { λ r. ⌜ ((n : ℕ) → Settles (linkOf n link) account queue size line f r) ⌝ }
+    ensures { λ r. ⌜ Settles queue size f r ⌝ }
 {
     let held = scheduler::held(queue);
-    let j = judge(link, account, held, size, f.arrival, line, f.length);
-    let after = j.account;
-    if j.verdict != 0 {
-        return Settled {
-            verdict: j.verdict,
-            account: after,
-            queue,
-        };
+    let more = scheduler::occupancy(f.length);
+    if !has_room(held, more, wide32(size)) {
+        return Settled { verdict: 3, queue };
     }
-    let longer = stored(queue, f, held + scheduler::occupancy(f.length));
+    let longer = stored(queue, f, held + more);
     Settled {
         verdict: 0,
-        account: after,
         queue: longer,
     }
 }
@@ -168,7 +108,8 @@ fn arrived(number: u16, length: u64, time: u64) -> Frame
     }
 }
 
-// A report that is not refused: the port advances, then a frame is judged. Fitness is not tested here.
+// A report that is not refused: the port advances, then a frame is judged: filtered (1), policed (2), dropped (3)
+// or stored (0). Fitness is not tested here.
 pub(crate) fn report(p: Port, r: Report, list: &mut [u64]) -> Answer
     requires { ⌜ reportRefusal (tableOf p) (portOf p) (reportOf r) (length (now list)) ≡ 0 ⌝ }
     ensures { λ a. ⌜ Answered p (reportOf r) (now (list .entry)) (now (list .exit)) a ⌝ }
@@ -180,6 +121,8 @@ pub(crate) fn report(p: Port, r: Report, list: &mut [u64]) -> Answer
     let table = p.table;
     let mut queues = moved.queues;
     let sender = moved.sender;
+    let frames = moved.frames;
+    let bytes = moved.bytes;
     let mut line_ticks = p.line_ticks;
     let mut accounts = p.accounts;
     let mut verdict: u32 = 0;
@@ -188,21 +131,42 @@ pub(crate) fn report(p: Port, r: Report, list: &mut [u64]) -> Answer
         verdict = 1;
         if let Place::At(i) = lookup::place_of(&table.numbers, table.count, number) {
             let link = table.links[i];
-            let k = link.priority as usize;
             let f = arrived(table.numbers[i], length, time);
-            let s = settle(link, accounts[i], queues[k], table.sizes[k], line, f);
-            verdict = s.verdict;
-            let after = s.account;
-            accounts[i] = after;
-            let kept = s.queue;
-            queues[k] = kept;
+            if admits(link, line, f.length) {
+                let reached = Port {
+                    table,
+                    clock: time,
+                    queues,
+                    sender,
+                    line_ticks,
+                    accounts,
+                };
+                let c = charging::charge_in(
+                    reached,
+                    i,
+                    table::bag(link.code),
+                    wide32(link.jitter),
+                    time,
+                );
+                let charged = c.port;
+                let after = charged.accounts;
+                accounts = after;
+                verdict = 2;
+                if c.passed {
+                    let k = link.priority as usize;
+                    let s = settle(queues[k], table.sizes[k], f);
+                    verdict = s.verdict;
+                    let kept = s.queue;
+                    queues[k] = kept;
+                }
+            }
         }
     }
     Answer {
         refused: 0,
         verdict,
-        frames: moved.frames,
-        bytes: moved.bytes,
+        frames,
+        bytes,
         port: Port {
             table,
             clock: time,

@@ -1,23 +1,32 @@
 use native.Mathlib.Omega.{arith}
-use mathlib.Core.Path.{_≡_, refl, sym, ap, _∙_}
-use Prim.Native.Nat.{ℕ, _≤_, _<_}
+use mathlib.Core.Path.{_≡_, sym, ap, _∙_}
+use Prim.Native.Nat.{ℕ, _<_}
 use lib.ListN.{length, getD}
+use Rattle.model.specs.Link.{VirtualLink}
 use Rattle.model.specs.Report.{frame}
-use Rattle.table.specs.View.{blankFields}
+use Rattle.model.specs.Report.{admits as admitted}
+use Rattle.table.specs.View.{linkOf, blankFields}
+use Rattle.scheduler.specs.declared.Frame.{Frame}
+use Rattle.port.specs.declared.Port.{Port}
 use Rattle.port.specs.View.{reportOf}
+use Rattle.port.specs.Charging.{chargeOf}
 use Rattle.lookup.proofs.Tables.{Passing}
 use Rattle.port.proofs.Whole.{Whole, whole}
-use Rattle.port.proofs.Answers.{NotRefused, is-wait, is-frame, passed, ready, found-at, found-nowhere, line-in, length-most, place-in, priority-in, roomy, waits, arrives-nowhere, arrives-at}
+use Rattle.port.proofs.Answers.{NotRefused, is-wait, is-frame, passed, ready, found-at, found-nowhere, line-in, length-most, priority-in, roomy, reached, waits, arrives-nowhere, is-filtered, is-policed, is-settled}
 use borrow.Author.Needs.{needs}
 use Rattle.port.proofs.reports.report.Statement.{statement}
 use Rattle.port.proofs.reports.report.Tie as tie
 use Rattle.port.proofs.reports.report.Reads as reads
 use Rattle.port.proofs.reports.report.Lts as lts
 use Rattle.lookup.proofs.place_of.Reads as place-of-reads
+use Rattle.port.proofs.charging.charge_in.Reads as charge-in-reads
+use Rattle.port.proofs.refusals.tick_of.Reads as tick-of-reads
+use Rattle.port.proofs.reports.admits.Reads as admits-reads
 use Rattle.port.proofs.reports.arrived.Reads as arrived-reads
 use Rattle.port.proofs.reports.settle.Reads as settle-reads
-use Rattle.port.proofs.refusals.tick_of.Reads as tick-of-reads
+use Rattle.port.proofs.reports.wide32.Reads as wide32-reads
 use Rattle.scheduler.proofs.advance.Reads as advance-reads
+use Rattle.table.proofs.bag.Reads as bag-reads
 
 -- the record that is handed in
 entire : (c : tie.Start) → Whole (c .args .p)
@@ -69,101 +78,111 @@ module _ (c : tie.After-known-told2) where
   in-queues : getD (start framed .args .p .table .links) place blankFields .priority < 8
   in-queues = priority-in (start framed .args .p) (entire (start framed)) (time framed) (line framed) (number framed) (len framed) (length (start framed .args .list .now)) (accepted framed) place in-table
 
--- src/reports.rt:178:9
+-- what the filter says of it
+module _ (c : tie.After-admits) where
+  abbrev found : tie.After-known-told2
+  found = c .before .before .before .before
+
+  abbrev link : VirtualLink
+  link = linkOf (getD (start (framed found) .args .p .table .numbers) (place found) 0) (getD (start (framed found) .args .p .table .links) (place found) blankFields)
+
+  filter-says : admitted link (line (framed found)) (len (framed found)) ≡ c .admits .result
+  filter-says = sym (c .admits .ensures (link .number) ∙ ap (λ (f : Frame). admitted link (line (framed found)) (f .length)) (c .before .arrived .ensures))
+
+-- and charged to its account
+module _ (c : tie.After-charge-in) where
+  abbrev filtered : tie.After-admits
+  filtered = c .before .before .before .before
+
+  abbrev before-charge : Port
+  before-charge = reached (start (framed (found filtered)) .args .p) (entire (start (framed (found filtered)))) (time (framed (found filtered))) (c .before .before .before .before .before .before .before .before .before .before .before .before .before .before .before .before .before .before .before .before .before .before .before .advance .ensures) (line (framed (found filtered))) (number (framed (found filtered))) (len (framed (found filtered))) (place (found filtered))
+
+  charges : c .charge-in .result ≡ chargeOf (link filtered) before-charge (place (found filtered)) (time (framed (found filtered)))
+  charges = c .charge-in .ensures (link filtered) (sym (c .before .before .bag .ensures)) (sym (c .before .wide32 .ensures .0))
+
 tick-of-requires : tie.Need-tick-of-requires
 tick-of-requires c κs = search needs
 
--- src/reports.rt:181:9
 advance-requires : tie.Need-advance-requires
-advance-requires c κs = ready (c .before .before .before .before .args .p) (entire (c .before .before .before .before)) (reportOf (c .before .before .before .before .args .r)) (length (c .before .before .before .before .args .list .now)) (c .before .before .before .before .pre) (c .before .before .tick-of .ensures)
+advance-requires c κs =
+    ready (c .before .before .before .before .args .p) (entire (c .before .before .before .before)) (reportOf (c .before .before .before .before .args .r)) (length (c .before .before .before .before .args .list .now)) (c .before .before .before .before .pre) (c .before .before .tick-of .ensures)
 
--- src/reports.rt:188:29
 enum-known-r : tie.Need-enum-known-r
 enum-known-r c = search needs
 
--- src/reports.rt:189:9
 mul-line-ticks : tie.Need-mul-line-ticks
-mul-line-ticks c = let k = on-line c in omega arith
+mul-line-ticks c =
+    let k = on-line c in omega arith
 
--- src/reports.rt:189:9
 array-write-line-ticks : tie.Need-array-write-line-ticks
-array-write-line-ticks c = on-line c
+array-write-line-ticks c =
+    on-line c
 
--- src/reports.rt:191:31
 place-of-requires : tie.Need-place-of-requires
-place-of-requires c κs = let k = passes (c .before .before) in (k .some-link, k .links-most, k .rising)
+place-of-requires c κs =
+    let k = passes (c .before .before) in (k .some-link, k .links-most, k .rising)
 
--- src/reports.rt:191:26
 enum-known-i : tie.Need-enum-known-i
 enum-known-i c = search needs
 
--- src/reports.rt:192:24
 mul-link : tie.Need-mul-link
-mul-link c = let k = in-array c in omega arith
+mul-link c =
+    let k = in-array c in omega arith
 
--- src/reports.rt:192:24
 element-copy-out-link : tie.Need-element-copy-out-link
-element-copy-out-link c = in-array c
+element-copy-out-link c =
+    in-array c
 
--- src/reports.rt:193:21
+mul-arrived : tie.Need-mul-arrived
+mul-arrived c =
+    let k = in-array (c .before) in omega arith
+
+element-copy-out-arrived : tie.Need-element-copy-out-arrived
+element-copy-out-arrived c =
+    in-array (c .before)
+
+arrived-requires : tie.Need-arrived-requires
+arrived-requires c κs =
+    let f = c .before .before .before .before .before .before .before .before in length-most (start f .args .p) (entire (start f)) (time f) (line f) (number f) (len f) (length (start f .args .list .now)) (accepted f)
+
+admits-requires : tie.Need-admits-requires
+admits-requires c κs = search needs
+
+bag-requires : tie.Need-bag-requires
+bag-requires c κs = search needs
+
+wide32-requires : tie.Need-wide32-requires
+wide32-requires c κs = search needs
+
+charge-in-requires : tie.Need-charge-in-requires
+charge-in-requires c κs =
+    in-array (c .before .before .before .before .before .before .before)
+
 cast-k : tie.Need-cast-k
 cast-k c = search needs
 
--- src/reports.rt:194:29
-mul-arrived : tie.Need-mul-arrived
-mul-arrived c = let k = in-array (c .before .before) in omega arith
-
--- src/reports.rt:194:29
-element-copy-out-arrived : tie.Need-element-copy-out-arrived
-element-copy-out-arrived c = in-array (c .before .before)
-
--- src/reports.rt:194:17
-arrived-requires : tie.Need-arrived-requires
-arrived-requires c κs = let f = c .before .before .before .before .before .before .before .before .before in length-most (start f .args .p) (entire (start f)) (time f) (line f) (number f) (len f) (length (start f .args .list .now)) (accepted f)
-
--- src/reports.rt:195:34
 mul-settle : tie.Need-mul-settle
-mul-settle c = let k = in-array (c .before .before .before .before) in omega arith
+mul-settle c = search needs
 
--- src/reports.rt:195:34
 array-copy-out-settle : tie.Need-array-copy-out-settle
-array-copy-out-settle c = in-array (c .before .before .before .before)
+array-copy-out-settle c = in-queues (c .before .before .before .before .before .before .before .before .before .before .before .before)
 
--- src/reports.rt:195:47
 mul-settle-2 : tie.Need-mul-settle-2
 mul-settle-2 c = search needs
 
--- src/reports.rt:195:47
-array-copy-out-settle-2 : tie.Need-array-copy-out-settle-2
-array-copy-out-settle-2 c = in-queues (c .before .before .before .before .before)
-
--- src/reports.rt:195:58
-mul-settle-3 : tie.Need-mul-settle-3
-mul-settle-3 c = search needs
-
--- src/reports.rt:195:58
 element-copy-out-settle : tie.Need-element-copy-out-settle
-element-copy-out-settle c = in-queues (c .before .before .before .before .before .before)
+element-copy-out-settle c = in-queues (c .before .before .before .before .before .before .before .before .before .before .before .before .before)
 
--- src/reports.rt:195:17
 settle-requires : tie.Need-settle-requires
-settle-requires c κs = let l = c .before .before .before .before .before .before .before in let f = c .before .before .before .before .before .before .before .before .before .before .before .before .before in roomy (start f .args .p) (entire (start f)) (time f) (line f) (number f) (len f) (length (start f .args .list .now)) (accepted f) (place l) (in-table l) (c .before .before .before .before .before .before .before .before .before .before .before .before .before .before .before .before .before .before .before .before .before .before .advance .ensures) (c .before .before .before .arrived .result) (rw (c .before .before .before .arrived .ensures))
+settle-requires c κs =
+    let l = found (filtered (c .before .before .before .before .before .before)) in let f = framed l in
+    roomy (start f .args .p) (entire (start f)) (time f) (line f) (number f) (len f) (length (start f .args .list .now)) (accepted f) (place l) (in-table l) (c .before .before .before .before .before .before .before .before .before .before .before .before .before .before .before .before .before .before .before .before .before .before .before .before .before .before .before .before .before .advance .ensures) (c .before .before .before .before .before .before .before .before .before .before .before .arrived .result) (ap (λ (k : Frame). k .length) (c .before .before .before .before .before .before .before .before .before .before .before .arrived .ensures))
 
--- src/reports.rt:198:13
-mul-accounts : tie.Need-mul-accounts
-mul-accounts c = let k = in-array (c .before .before .before .before .before .before .before .before .before) in omega arith
-
--- src/reports.rt:198:13
-array-set-from-accounts : tie.Need-array-set-from-accounts
-array-set-from-accounts c = in-array (c .before .before .before .before .before .before .before .before .before)
-
--- src/reports.rt:200:13
 mul-queues : tie.Need-mul-queues
 mul-queues c = search needs
 
--- src/reports.rt:200:13
 array-set-from-queues : tie.Need-array-set-from-queues
-array-set-from-queues c = in-queues (c .before .before .before .before .before .before .before .before .before .before)
+array-set-from-queues c = in-queues (c .before .before .before .before .before .before .before .before .before .before .before .before .before .before .before .before)
 
 enum-told : tie.Need-enum-told
 enum-told c = search needs
@@ -171,34 +190,51 @@ enum-told c = search needs
 enum-told-2 : tie.Need-enum-told-2
 enum-told-2 c = search needs
 
--- src/reports.rt:174:1
 same-length : tie.Need-same-length
-same-length c = c .before .before .before .before .before .before .before .before .before .before .before .before .before .before .before .before .before .before .before .before .before .before .before .before .before .advance .kept .1 .1 .1 .1 .0
+same-length c = c .before .before .before .before .before .before .before .before .before .before .before .before .before .before .before .before .before .before .before .before .before .before .before .before .before .before .before .before .before .before .before .advance .kept .1 .1 .1 .1 .0
 
--- src/reports.rt:174:1
 returns : tie.Need-returns
-returns c = let l = c .before .before .before .before .before .before .before .before .before .before in let f = c .before .before .before .before .before .before .before .before .before .before .before .before .before .before .before .before in let s = start f in
-    arrives-at (s .args .p) (entire s) (time f) (c .before .before .before .before .before .before .before .before .before .before .before .before .before .before .before .before .before .before .before .before .before .before .before .before .before .advance .ensures) (line f) (number f) (len f) (place l) (is-it f) (s .pre)
-    (found-at (s .args .p) (entire s) (frame (time f) (line f) (number f) (len f)) (length (s .args .list .now)) (accepted f) (c .before .before .before .before .before .before .before .before .before .before .before .before .before .place-of .ensures) (l .before .i .given .1)) (c .before .before .settle .result)
-    (rw (c .before .before .before .before .before .before .arrived .ensures) at (c .before .before .settle .ensures (getD (s .args .p .table .numbers) (place l) 0)))
+returns c =
+    let x = c .before .before .before .before .before .before .before .before in let l = found (filtered x) in let f = framed l in
+    is-settled (start f .args .p) (entire (start f)) (time f) (c .before .before .before .before .before .before .before .before .before .before .before .before .before .before .before .before .before .before .before .before .before .before .before .before .before .before .before .before .before .before .before .advance .ensures) (line f) (number f) (len f) (place l) (is-it f) (start f .pre)
+    (found-at (start f .args .p) (entire (start f)) (frame (time f) (line f) (number f) (len f)) (length (start f .args .list .now)) (accepted f) (c .before .before .before .before .before .before .before .before .before .before .before .before .before .before .before .before .before .before .before .place-of .ensures) (l .before .i .given .1))
+    (filter-says (filtered x) ∙ c .before .before .before .before .before .before .before .before .before .before .before .if1 .taken) (charges x) (c .before .before .before .before .before .if2 .taken) (c .before .settle .result) (rw (c .before .before .before .before .before .before .before .before .before .before .before .before .before .arrived .ensures) at (c .before .settle .ensures))
 
--- src/reports.rt:174:1
 same-length-2 : tie.Need-same-length-2
-same-length-2 c = search needs
+same-length-2 c = c .before .before .before .before .before .before .before .before .before .before .before .before .before .before .before .before .before .before .before .before .before .before .before .before .before .before .advance .kept .1 .1 .1 .1 .0
 
--- src/reports.rt:174:1
 returns-2 : tie.Need-returns-2
-returns-2 c = let f = c .before .before .before .before .before in let s = start f in
-    arrives-nowhere (s .args .p) (entire s) (time f) (c .before .before .before .before .before .before .before .before .before .before .before .before .before .before .advance .ensures) (line f) (number f) (len f) (is-it f) (s .pre)
-    (found-nowhere (s .args .p) (entire s) (frame (time f) (line f) (number f) (len f)) (length (s .args .list .now)) (accepted f) (c .before .before .place-of .ensures) (c .enum-told .given .1))
+returns-2 c =
+    let x = c .before .before .before in let l = found (filtered x) in let f = framed l in
+    is-policed (start f .args .p) (entire (start f)) (time f) (c .before .before .before .before .before .before .before .before .before .before .before .before .before .before .before .before .before .before .before .before .before .before .before .before .before .before .advance .ensures) (line f) (number f) (len f) (place l) (is-it f) (start f .pre)
+    (found-at (start f .args .p) (entire (start f)) (frame (time f) (line f) (number f) (len f)) (length (start f .args .list .now)) (accepted f) (c .before .before .before .before .before .before .before .before .before .before .before .before .before .before .place-of .ensures) (l .before .i .given .1))
+    (filter-says (filtered x) ∙ c .before .before .before .before .before .before .if1 .taken) (charges x) (c .if2 .left)
 
--- src/reports.rt:174:1
 same-length-3 : tie.Need-same-length-3
 same-length-3 c = search needs
 
--- src/reports.rt:174:1
 returns-3 : tie.Need-returns-3
-returns-3 c = let s = c .before .before .before .before .before .before .before .before .before .before .before .before .before in waits (s .args .p) (entire s) (c .before .before .before .before .before .before .before .before .before .before .before .tick-of .result) (c .before .before .before .before .before .before .before .before .advance .ensures) (is-wait (c .enum-told2 .given .1) (c .before .before .before .before .before .before .before .before .before .before .before .tick-of .ensures)) (s .pre)
+returns-3 c =
+    let l = found (c .before) in let f = framed l in
+    is-filtered (start f .args .p) (entire (start f)) (time f) (c .before .before .before .before .before .before .before .before .before .before .before .before .before .before .before .before .before .before .before .before .advance .ensures) (line f) (number f) (len f) (place l) (is-it f) (start f .pre)
+    (found-at (start f .args .p) (entire (start f)) (frame (time f) (line f) (number f) (len f)) (length (start f .args .list .now)) (accepted f) (c .before .before .before .before .before .before .before .before .place-of .ensures) (l .before .i .given .1))
+    (filter-says (c .before) ∙ c .if1 .left)
+
+same-length-4 : tie.Need-same-length-4
+same-length-4 c = search needs
+
+returns-4 : tie.Need-returns-4
+returns-4 c =
+    let f = c .before .before .before .before .before in let s = start f in
+    arrives-nowhere (s .args .p) (entire s) (time f) (c .before .before .before .before .before .before .before .before .before .before .before .before .before .before .advance .ensures) (line f) (number f) (len f) (is-it f) (s .pre)
+    (found-nowhere (s .args .p) (entire s) (frame (time f) (line f) (number f) (len f)) (length (s .args .list .now)) (accepted f) (c .before .before .place-of .ensures) (c .enum-told .given .1))
+
+same-length-5 : tie.Need-same-length-5
+same-length-5 c = search needs
+
+returns-5 : tie.Need-returns-5
+returns-5 c =
+    let s = c .before .before .before .before .before .before .before .before .before .before .before .before .before in waits (s .args .p) (entire s) (c .before .before .before .before .before .before .before .before .before .before .before .tick-of .result) (c .before .before .before .before .before .before .before .before .advance .ensures) (is-wait (c .enum-told2 .given .1) (c .before .before .before .before .before .before .before .before .before .before .before .tick-of .ensures)) (s .pre)
 
 pub report-spec : {M : Type 1} → statement M
 report-spec =
@@ -213,19 +249,19 @@ report-spec =
     enum-known-i
     mul-link
     element-copy-out-link
-    cast-k
     mul-arrived
     element-copy-out-arrived
     arrived-requires
+    admits-requires
+    bag-requires
+    wide32-requires
+    charge-in-requires
+    cast-k
     mul-settle
     array-copy-out-settle
     mul-settle-2
-    array-copy-out-settle-2
-    mul-settle-3
     element-copy-out-settle
     settle-requires
-    mul-accounts
-    array-set-from-accounts
     mul-queues
     array-set-from-queues
     enum-told
@@ -235,4 +271,8 @@ report-spec =
     same-length-2
     returns-2
     same-length-3
-    returns-3)
+    returns-3
+    same-length-4
+    returns-4
+    same-length-5
+    returns-5)
