@@ -1,19 +1,19 @@
-use Prim.Native.Nat.{_-_, _≤_}
+use Prim.Native.Nat.{_+_, _-_, _≤_}
 use borrow.Author.Needs.{needs}
 use Rattle.port_bench.proofs.waited.Statement.{statement}
 use Rattle.port_bench.proofs.waited.Tie as tie
 
 abbrev Inv-loop : tie.InvT-loop
-Inv-loop port₀ waits list₀ tick i₀ port list i = i ≤ waits
+Inv-loop port₀ waits list₀ tick i₀ port list i = i ≤ waits + 4
 
 abbrev μ-loop : tie.MeasureT-loop
-μ-loop port₀ waits list₀ tick i₀ port list i = waits - i
+μ-loop port₀ waits list₀ tick i₀ port list i = waits + 4 - i
 
 loop-holds : tie.Need-loop-holds Inv-loop μ-loop
 loop-holds c = search needs
 
-one-wait-requires : tie.Need-one-wait-requires Inv-loop μ-loop
-one-wait-requires c κs = search needs
+four-waits-requires : tie.Need-four-waits-requires Inv-loop μ-loop
+four-waits-requires c κs = search needs
 
 add-i : tie.Need-add-i Inv-loop μ-loop
 add-i c = search needs
@@ -30,4 +30,4 @@ returns c = search needs
 pub waited-spec : {M : Type 1} → statement M
 waited-spec =
     tie.close
-    (tie.spec Inv-loop μ-loop loop-holds one-wait-requires add-i loop-less loop-again returns)
+    (tie.spec Inv-loop μ-loop loop-holds four-waits-requires add-i loop-less loop-again returns)
