@@ -18,6 +18,11 @@ fn frames(v: &Link, w: u64) -> u64 {
     1 + (w + u64::from(v.jitter)) / BAGS[usize::from(v.code)]
 }
 
+/// The same by a division by the first BAG, since each BAG is the one before, doubled.
+fn frames_by_shift(v: &Link, w: u64) -> u64 {
+    1 + (((w + u64::from(v.jitter)) / BAGS[0]) >> v.code)
+}
+
 fn links(t: &Table) -> &[Link] {
     &t.links[..usize::from(t.count)]
 }
@@ -33,7 +38,7 @@ struct Loads {
     tops: [u64; 24],
 }
 
-fn loads(t: &Table, low: u8, high: u8, w: u64) -> Loads {
+fn loads(t: &Table, low: u8, high: u8, w: u64, frames: impl Fn(&Link, u64) -> u64) -> Loads {
     let mut l = Loads { sums: [0; 24], tops: [0; 24] };
     for v in links(t).iter().filter(|v| low <= v.priority && v.priority <= high) {
         let (k, x) = (usize::from(v.line), u64::from(v.greatest));
@@ -47,8 +52,8 @@ fn total(l: &Loads, lines: u16, w: u64) -> u64 {
     (0..usize::from(lines)).map(|k| l.sums[k].min(w + l.tops[k])).sum()
 }
 
-fn arrivals(t: &Table, low: u8, high: u8, w: u64) -> u64 {
-    total(&loads(t, low, high, w), t.lines, w)
+fn arrivals(t: &Table, low: u8, high: u8, w: u64, frames: impl Fn(&Link, u64) -> u64) -> u64 {
+    total(&loads(t, low, high, w, frames), t.lines, w)
 }
 
 /// The literal formulas: for each priority, for each w in turn, A anew by one pass over all links and one over all lines.
@@ -56,9 +61,9 @@ fn literal(t: &Table) -> Option<u64> {
     let mut sum = 0;
     for p in 0..8 {
         let b = longest(t, p + 1, 7).saturating_sub(1);
-        let hold = (1..=65_536).find(|w| b + arrivals(t, 0, p, w - 1) <= *w)?;
+        let hold = (1..=65_536).find(|w| b + arrivals(t, 0, p, w - 1, frames) <= *w)?;
         let m = longest(t, p, p);
-        let bound = |w: u64| arrivals(t, p, p, w).min(arrivals(t, 0, p, w) - w.saturating_sub(b) + m - 1);
+        let bound = |w: u64| arrivals(t, p, p, w, frames).min(arrivals(t, 0, p, w, frames) - w.saturating_sub(b) + m - 1);
         sum += hold + if m == 0 { 0 } else { (0..hold).map(bound).max()? };
     }
     Some(sum)
@@ -79,7 +84,7 @@ fn fast(t: &Table) -> Option<u64> {
 fn climb(t: &Table, p: u8, b: u64) -> Option<u64> {
     let mut last = 0;
     while last < 65_536 {
-        let n = b + arrivals(t, 0, p, last);
+        let n = b + arrivals(t, 0, p, last, frames_by_shift);
         if n <= last + 1 {
             return Some(last + 1);
         }
@@ -91,7 +96,7 @@ fn climb(t: &Table, p: u8, b: u64) -> Option<u64> {
 fn peak(t: &Table, p: u8, b: u64, m: u64, last: u64) -> u64 {
     let (mut best, mut w) = (0, 0);
     while w <= last {
-        let (own, up) = (loads(t, p, p, w), loads(t, 0, p, w));
+        let (own, up) = (loads(t, p, p, w, frames_by_shift), loads(t, 0, p, w, frames_by_shift));
         let until = steady(t, p, w).min(last);
         let by = |w: u64, sent: u64| {
             total(&own, t.lines, w).min(total(&up, t.lines, w).saturating_sub(sent.saturating_sub(b)) + m - 1)
@@ -114,7 +119,7 @@ fn peak(t: &Table, p: u8, b: u64, m: u64, last: u64) -> u64 {
 }
 
 fn steady(t: &Table, high: u8, w: u64) -> u64 {
-    let until = |v: &Link| frames(v, w) * BAGS[usize::from(v.code)] - u64::from(v.jitter) - 1;
+    let until = |v: &Link| frames_by_shift(v, w) * BAGS[usize::from(v.code)] - u64::from(v.jitter) - 1;
     links(t).iter().filter(|v| v.priority <= high).map(until).min().unwrap_or(65_535).min(65_535)
 }
 

@@ -1,5 +1,5 @@
 //! A report with its fitness check, on a port with so many queued frames: the product, in a program of its own that
-//! waits over and over, beside a plain Rust port that is lent and not copied.
+//! waits four times in a row, over and over, beside a plain Rust port that is lent and not copied.
 
 use crate::table::{file_of, Link, Table};
 use std::hint::black_box;

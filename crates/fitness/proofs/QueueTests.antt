@@ -22,7 +22,7 @@ use Rattle.scheduler.specs.declared.Sender.{Sender as SenderRecord}
 use Rattle.scheduler.specs.View.{frameOf, blankEntry, blankQueue, framesOf, queuesOf, marksOf, senderOf}
 use Rattle.scheduler.proofs.Shown.{count-shown, queue-shown, queue-count}
 use Rattle.scheduler.proofs.Sums.{frames-all}
-use Rattle.fitness.specs.declared.Queued.{Queued}
+use Rattle.fitness.specs.declared.Fitness.{Fitness}
 use Rattle.lookup.specs.declared.Place.{Place}
 use Rattle.lookup.specs.declared.Place.the-variants.{At, Nowhere}
 use Rattle.lookup.specs.Places.{placeNumber, Found}
@@ -126,7 +126,7 @@ none-queued t clock p r e =
     ))
 
 -- ---- what is told of all queues and of the sender
-module _ (t : TableRecord) (clock : ℕ) (queues : List Queue) (sender : SenderRecord) (r : Queued) where
+module _ (t : TableRecord) (clock : ℕ) (queues : List Queue) (sender : SenderRecord) (r : Fitness) where
   unfit-told : r .fits ≡ false → false ≡ allHold (queuesFit t clock queues ∷ senderFit clock (queuesOf queues) (senderOf sender) ∷ []) → Told t clock queues sender r
   unfit-told e x = record { fits-is = e ∙ x; counted = λ y. not-both y e }
 

@@ -17,7 +17,7 @@ use Rattle.policing.specs.Check.{accountOf}
 use Rattle.scheduler.specs.declared.Queue.{Queue}
 use Rattle.scheduler.specs.declared.Sender.{Sender as SenderRecord}
 use Rattle.scheduler.specs.View.{framesOf, queuesOf, marksOf, senderOf}
-use Rattle.fitness.specs.declared.Queued.{Queued}
+use Rattle.fitness.specs.declared.Fitness.{Fitness}
 
 -- of a frame whose link this is; low is the arrival tick of the frame before
 abbrev pub frameFits : VirtualLink → ℕ → ℕ → ℕ → Frame → Bool
@@ -72,6 +72,6 @@ abbrev pub creditsFit : List AccountRecord → TableRecord → Bool
 creditsFit accounts t = allTo (creditFits accounts t) (t .count)
 
 -- what is told of the queues and the sender: whether all of it fits, and, if so, how many frames are held
-pub record Told (t : TableRecord) (clock : ℕ) (queues : List Queue) (sender : SenderRecord) (r : Queued) : Type 0 where
+pub record Told (t : TableRecord) (clock : ℕ) (queues : List Queue) (sender : SenderRecord) (r : Fitness) : Type 0 where
   pub fits-is : r .fits ≡ allHold (queuesFit t clock queues ∷ senderFit clock (queuesOf queues) (senderOf sender) ∷ [])
   pub counted : r .fits ≡ true → r .frames ≡ framesHeld (queuesOf queues)

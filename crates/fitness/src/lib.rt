@@ -21,16 +21,16 @@ ghost use Rattle.table.specs.View.{linkOf, viewOf};
 ghost use Rattle.scheduler.specs.View.{blankQueue, frameOf, queuesOf};
 ghost use Rattle.fitness.specs.Conditions.{frameFits, loadFits, linesFit, ticksFit, creditsFit, Told};
 
-// Whether the queues fit, and how many frames they hold.
-pub struct Queued {
+// Whether what was tested fits, and, if so, how many frames are held.
+pub struct Fitness {
     pub fits: bool,
     pub frames: u64,
 }
 
-pub fn unfit() -> Queued
+pub fn unfit() -> Fitness
     ensures { λ r. ⌜ r .fits ≡ false ⌝ }
 {
-    Queued {
+    Fitness {
         fits: false,
         frames: 0,
     }
@@ -62,7 +62,22 @@ fn frame_fits(link: VirtualLink, f: Frame, priority: u8, low: u64, clock: u64) -
     f.arrival <= clock
 }
 
-// Of one queue: its count, its frames, each of which names a link and fits it, and its held sum.
+// Guesses at the places of the first count numbers, by their last ten bits.
+// A guess may be wrong: `lookup::place_near` tests it.
+fn guesses_of(numbers: &[u16; 256], count: u16) -> [u8; 1024]
+    requires { ⌜ count ≤ 256 ⌝ }
+{
+    let mut guesses = [0u8; 1024];
+    let n = count as usize;
+    let mut i: usize = 0;
+    while i < n {
+        guesses[(numbers[i] % 1024) as usize] = i as u8;
+        i += 1;
+    }
+    guesses
+}
+
+// Of one queue: its frames, each of which names a link and fits it, and its held sum.
 fn load_fits(t: Table, guesses: &[u8; 1024], q: Queue, priority: u8, clock: u64) -> bool
     requires { ⌜ (tableRefusal (viewOf t) ≡ 0) × (q .count ≤ mostFrames) ⌝ }
     ensures { λ r. ⌜ r ≡ loadFits t clock priority q ⌝ }
@@ -108,7 +123,7 @@ fn head_fits(q: Queue, start: u64, clock: u64) -> bool
 }
 
 // Counts, frames, held sums and marks, and the frame being sent. An empty queue is not read: reading one is a copy.
-pub fn queues_fit(t: Table, queues: [Queue; 8], sender: Sender, clock: u64) -> Queued
+pub fn queues_fit(t: Table, queues: [Queue; 8], sender: Sender, clock: u64) -> Fitness
     requires { ⌜ tableRefusal (viewOf t) ≡ 0 ⌝ }
     ensures { λ r. ⌜ Told t clock queues sender r ⌝ }
 {
@@ -118,7 +133,7 @@ pub fn queues_fit(t: Table, queues: [Queue; 8], sender: Sender, clock: u64) -> Q
     while i < 8 {
         if queues[i].count != 0 {
             if frames == 0 {
-                let made = lookup::guesses_of(&t.numbers, t.count);
+                let made = guesses_of(&t.numbers, t.count);
                 guesses = made;
             }
             let q = queues[i];
@@ -136,13 +151,13 @@ pub fn queues_fit(t: Table, queues: [Queue; 8], sender: Sender, clock: u64) -> Q
         i += 1;
     }
     let Sender::Sending(p, start) = sender else {
-        return Queued { fits: true, frames };
+        return Fitness { fits: true, frames };
     };
     if 8 <= p {
         return unfit();
     }
     let head = queues[p as usize];
-    Queued {
+    Fitness {
         fits: head_fits(head, start, clock),
         frames,
     }

@@ -34,21 +34,6 @@ pub fn place_of(numbers: &[u16; 256], count: u16, number: u64) -> Place
     Place::Nowhere
 }
 
-// Guesses at the places of the first count numbers, by their last ten bits.
-// A guess may be wrong: place_near tests it.
-pub fn guesses_of(numbers: &[u16; 256], count: u16) -> [u8; 1024]
-    requires { ⌜ count ≤ 256 ⌝ }
-{
-    let mut guesses = [0u8; 1024];
-    let n = count as usize;
-    let mut i: usize = 0;
-    while i < n {
-        guesses[(numbers[i] % 1024) as usize] = i as u8;
-        i += 1;
-    }
-    guesses
-}
-
 // The place of a number, which is often the guess.
 pub fn place_near(numbers: &[u16; 256], count: u16, number: u16, guess: u8) -> Place
     requires { ⌜ (0 < count) × (count ≤ 256) × Rising (now numbers) count ⌝ }

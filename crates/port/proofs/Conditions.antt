@@ -19,9 +19,9 @@ use Rattle.scheduler.specs.declared.Queue.{Queue}
 use Rattle.scheduler.specs.View.{queuesOf, marksOf, senderOf}
 use Rattle.port.specs.declared.Port.{Port as PortRecord}
 use Rattle.port.specs.View.{tableOf, portOf}
-use Rattle.fitness.specs.declared.Queued.{Queued}
+use Rattle.fitness.specs.declared.Fitness.{Fitness}
 use Rattle.fitness.specs.Conditions.{queuesFit, linesFit, ticksFit, creditsFit, Told}
-use Rattle.port.specs.Fitness.{conditions, Checked}
+use Rattle.port.specs.Fitness.{conditions, Tested}
 use Rattle.fitness.proofs.All.{not-both, same-truth, all-four, any-false}
 
 -- four conditions are one
@@ -64,21 +64,21 @@ module _ (p : PortRecord) where
   fails i e = any-false (conditions p) i e ∙ sym fit-shown
 
   -- ---- a record that is not fit
-  module _ (r : Queued) (e : r .fits ≡ false) where
-    unfit-checked : false ≡ fit (tableOf p) (portOf p) → Checked p r
-    unfit-checked x = record { fits-is = e ∙ x; counted = λ y. not-both y e }
+  module _ (r : Fitness) (e : r .fits ≡ false) where
+    unfit-tested : false ≡ fit (tableOf p) (portOf p) → Tested p r
+    unfit-tested x = record { fits-is = e ∙ x; counted = λ y. not-both y e }
 
-    pub table-refused : {n : ℕ} → n ≡ tableRefusal (viewOf (p .table)) → (n ≡ 0 → ⊥) → Checked p r
+    pub table-refused : {n : ℕ} → n ≡ tableRefusal (viewOf (p .table)) → (n ≡ 0 → ⊥) → Tested p r
     unfolding conditions
-    table-refused x y = unfit-checked (fails 0 (ne-eqb (tableRefusal (viewOf (p .table))) 0 (λ z. y (x ∙ z))))
+    table-refused x y = unfit-tested (fails 0 (ne-eqb (tableRefusal (viewOf (p .table))) 0 (λ z. y (x ∙ z))))
 
-    pub clock-late : lastTick < p .clock → Checked p r
+    pub clock-late : lastTick < p .clock → Tested p r
     unfolding conditions
-    clock-late h = unfit-checked (fails 1 (lt-leb (p .clock) lastTick h))
+    clock-late h = unfit-tested (fails 1 (lt-leb (p .clock) lastTick h))
 
-    pub queues-unfit : false ≡ allHold (queuesFit (p .table) (p .clock) (p .queues) ∷ senderFit (p .clock) (queuesOf (p .queues)) (senderOf (p .sender)) ∷ []) → Checked p r
+    pub queues-unfit : false ≡ allHold (queuesFit (p .table) (p .clock) (p .queues) ∷ senderFit (p .clock) (queuesOf (p .queues)) (senderOf (p .sender)) ∷ []) → Tested p r
     unfolding conditions
-    queues-unfit x = unfit-checked (go (fit (tableOf p) (portOf p)) refl)
+    queues-unfit x = unfit-tested (go (fit (tableOf p) (portOf p)) refl)
       where
         go : (b : Bool) → fit (tableOf p) (portOf p) ≡ b → false ≡ b
         go false y = refl
@@ -86,15 +86,15 @@ module _ (p : PortRecord) where
             let all = all-true (conditions p) (sym fit-shown ∙ y) in
             not-both (true-all _ (all .1 .1 .0, (all .1 .1 .1 .1 .1 .1 .0, tt))) (sym x)
 
-    pub lines-unfit : false ≡ linesFit (p .«line_ticks») (p .table .lines) (p .clock) → Checked p r
+    pub lines-unfit : false ≡ linesFit (p .«line_ticks») (p .table .lines) (p .clock) → Tested p r
     unfolding conditions
-    lines-unfit x = unfit-checked (fails 3 (sym x))
+    lines-unfit x = unfit-tested (fails 3 (sym x))
 
   -- ---- the accounts decide
-  module _ (a : tableRefusal (viewOf (p .table)) ≡ 0) (b : p .clock ≤ lastTick) {q : Queued} (told : Told (p .table) (p .clock) (p .queues) (p .sender) q) (yes : q .fits ≡ true)
+  module _ (a : tableRefusal (viewOf (p .table)) ≡ 0) (b : p .clock ≤ lastTick) {q : Fitness} (told : Told (p .table) (p .clock) (p .queues) (p .sender) q) (yes : q .fits ≡ true)
       (c : true ≡ linesFit (p .«line_ticks») (p .table .lines) (p .clock)) where
     pub accounts-decide : (f : Bool) → f ≡ allHold (ticksFit (p .accounts) (p .table .count) (p .clock) ∷ creditsFit (p .accounts) (p .table) ∷ [])
-        → Checked p (record { fits = f; frames = q .frames })
+        → Tested p (record { fits = f; frames = q .frames })
     unfolding conditions
     accounts-decide f x =
         let two = all-true _ (sym (told .fits-is) ∙ yes) in

@@ -9,7 +9,7 @@ use Rattle.model.specs.Machine.{framesHeld}
 use Rattle.model.specs.Report.{senderFit, fit}
 use Rattle.table.specs.View.{viewOf}
 use Rattle.scheduler.specs.View.{queuesOf, senderOf}
-use Rattle.fitness.specs.declared.Queued.{Queued}
+use Rattle.fitness.specs.declared.Fitness.{Fitness}
 use Rattle.fitness.specs.Conditions.{queuesFit, linesFit, ticksFit, creditsFit}
 use Rattle.port.specs.declared.Port.{Port as PortRecord}
 use Rattle.port.specs.View.{tableOf, portOf}
@@ -26,6 +26,6 @@ conditions p =
     ∷ []
 
 -- whether a record is fit, and, if so, how many frames it holds
-pub record Checked (p : PortRecord) (r : Queued) : Type 0 where
+pub record Tested (p : PortRecord) (r : Fitness) : Type 0 where
   pub fits-is : r .fits ≡ fit (tableOf p) (portOf p)
   pub counted : r .fits ≡ true → r .frames ≡ framesHeld (queuesOf (p .queues))

@@ -1,14 +1,14 @@
 // The refusals of a report, 10 to 16, in order.
 use crate::Port;
 use crate::Report;
-use fitness::Queued;
+use fitness::Fitness;
 use lookup::wide;
 ghost use mathlib.Core.Path.{_≡_};
 ghost use Rattle.model.specs.Basics.{firstMet};
 ghost use Rattle.model.specs.Table.{Table as TableOf};
 ghost use Rattle.model.specs.Report.{Port as PortOf, tickOf, frameChecks, reportRefusal};
 ghost use Rattle.port.specs.View.{tableOf, portOf, reportOf};
-ghost use Rattle.port.specs.Fitness.{Checked};
+ghost use Rattle.port.specs.Fitness.{Tested};
 ghost use Rattle.port.specs.Refusals.{Clocked, Lines};
 
 pub(crate) fn tick_of(report: Report) -> u64
@@ -45,8 +45,8 @@ fn frame_refusal(ticks: [u64; 24], lines: u16, report: Report) -> u32
 }
 
 // Whether a port record is fit, condition by condition, and, if it is, how many frames it holds.
-fn fit(p: Port) -> Queued
-    ensures { λ r. ⌜ Checked p r ⌝ }
+fn fit(p: Port) -> Fitness
+    ensures { λ r. ⌜ Tested p r ⌝ }
 {
     let t = p.table;
     if table::check(t) != 0 {
@@ -67,7 +67,7 @@ fn fit(p: Port) -> Queued
         return fitness::unfit();
     }
     let accounts = p.accounts;
-    Queued {
+    Fitness {
         fits: fitness::accounts_fit(accounts, t, clock),
         frames: queued.frames,
     }
