@@ -1,5 +1,6 @@
 // For bench/: queues frames, then waits at one tick over and over, so that the time of a report can be taken.
 // Standard input: how many frames and how many waits, 8 bytes each, little-endian, then a table file.
+use fields::byte;
 use libc::STDIN_FILENO;
 use libc::STDOUT_FILENO;
 use port::Port;
@@ -73,10 +74,6 @@ fn four_waits(port: Port, tick: u64, list: &mut [u64; ROOM]) -> Port {
     let third = c.port;
     let d = third.wait(tick, list);
     d.port
-}
-
-fn byte(s: &[u8], at: usize) -> u8 {
-    if at < s.len() { s[at] } else { 0 }
 }
 
 // Below 2^24, which is enough.

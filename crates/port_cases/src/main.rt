@@ -1,13 +1,13 @@
 // Runs the cases of standard input through the port: the fresh port of a table record or a port record, and
 // a list of reports; and prints a line for each answer. What it must print was computed by reference/, whose
 // src/cases/port.rs has the form of a case.
-mod field;
+mod given;
 mod record;
 mod sums;
 
-use field::eight;
-use field::least;
-use field::two;
+use fields::eight;
+use fields::two;
+use given::least;
 use libc::STDIN_FILENO;
 use libc::STDOUT_FILENO;
 use port::Answer;

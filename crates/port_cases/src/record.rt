@@ -1,10 +1,10 @@
 // Table and port records of a case. An array stands there as its last entry, how many are given (2 bytes),
 // and these.
-use crate::field::byte;
-use crate::field::eight;
-use crate::field::four;
-use crate::field::given;
-use crate::field::two;
+use crate::given::given;
+use fields::byte;
+use fields::eight;
+use fields::four;
+use fields::two;
 use policing::Account;
 use port::Port;
 use scheduler::Frame;

@@ -1,5 +1,5 @@
 // 32-bit FNV-1a of a list, and of the numbers of a port, each number as 8 bytes, little-endian.
-use crate::field::least;
+use crate::given::least;
 use policing::Account;
 use port::Port;
 use scheduler::Queue;

@@ -2,7 +2,6 @@
 // answer of each, then held bytes and mark of each priority. A report is five little-endian numbers of
 // 8 bytes: form (0 a wait, 1 a frame), tick, line, number, length.
 mod answers;
-mod field;
 mod parts;
 mod text;
 

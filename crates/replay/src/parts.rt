@@ -1,7 +1,7 @@
 // The reports file, part by part.
 use crate::answers;
 use crate::answers::LIST;
-use crate::field::eight;
+use fields::eight;
 use port::Answer;
 use port::Port;
 ghost use Prim.Native.Nat.{_≤_};

@@ -1,11 +1,9 @@
 // Runs the cases of standard input through the reader, the check and the writer of tables, and prints
 // a line for each. What it must print was computed by reference/, whose src/cases/table.rs has the form
 // of a case: form (1: a file, 2: a record), length in two bytes, as many bytes.
-mod field;
-
-use field::byte;
-use field::four;
-use field::two;
+use fields::byte;
+use fields::four;
+use fields::two;
 use libc::STDIN_FILENO;
 use libc::STDOUT_FILENO;
 use table::Table;
