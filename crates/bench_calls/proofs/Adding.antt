@@ -8,10 +8,10 @@ use lib.ListN.{length, getD, take}
 use lib.Seq.{take-all}
 use Rattle.model.specs.Bounds.{sizing}
 use Rattle.model.specs.TableFile.{Reading, readTable}
-use Rattle.table.specs.declared.Reading.{Reading as ReadingRecord}
+use Rattle.table_file.specs.declared.Reading.{Reading as ReadingRecord}
 use Rattle.table.specs.View.{viewOf}
-use Rattle.table.specs.Records.{readingOf}
-use Rattle.table.proofs.Shown.{read-shown}
+use Rattle.table_file.specs.Answers.{readingOf}
+use Rattle.table_file.proofs.Back.{read-shown}
 use Rattle.bounds.specs.declared.Bounds.{Bounds as BoundsRecord}
 use Rattle.bounds.specs.Answer.{boundsRecord}
 use Rattle.bench_calls.specs.Sums.{sum, sizingSum}

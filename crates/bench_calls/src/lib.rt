@@ -28,7 +28,7 @@ fn sum_of(a: [u32; 8]) -> u64
 pub extern "C" fn bench_sizing(file: &[u8]) -> u64
     ensures { λ r. ⌜ r ≡ sizingSum (readTable (now (file .entry)) .table) ⌝ }
 {
-    let reading = table::read(file);
+    let reading = table_file::read(file);
     let t = reading.table;
     let s = bounds::bounds_of(t);
     let b = s.bounds;

@@ -23,7 +23,7 @@ fn main() {
 fn run(file: &[u8], frames: u64, waits: u64)
     requires { ⌜ (frames ≤ 16777215) × (waits ≤ 16777215) ⌝ }
 {
-    let reading = table::read(file);
+    let reading = table_file::read(file);
     let t = reading.table;
     let fresh = Port::fresh(t);
     let port = waited(filled(fresh.port, frames), waits);

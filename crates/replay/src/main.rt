@@ -38,7 +38,7 @@ fn with_table(name: &[u8]) {
         answers::failed(b"can't read ", name);
         return;
     }
-    let reading = table::read(&file[..n]);
+    let reading = table_file::read(&file[..n]);
     if reading.refused != 0 {
         answers::refused(reading.refused as u64);
         return;

@@ -11,10 +11,10 @@ use Rattle.model.specs.Table.{Table}
 use Rattle.model.specs.TableFile.{Reading, readTable}
 use Rattle.model.specs.Bounds.{boundsRefusal, bound, hold, sizedOr, sizing}
 use Rattle.model.specs.Sheet.{sheetOr, sheet}
-use Rattle.table.specs.declared.Reading.{Reading as ReadingRecord}
+use Rattle.table_file.specs.declared.Reading.{Reading as ReadingRecord}
 use Rattle.table.specs.View.{viewOf, recordOf}
-use Rattle.table.specs.Records.{readingOf}
-use Rattle.table.proofs.Shown.{read-shown}
+use Rattle.table_file.specs.Answers.{readingOf}
+use Rattle.table_file.proofs.Back.{read-shown}
 use Rattle.sheet_text.specs.declared.Text.{Text}
 use Rattle.sheet_text.specs.Fixed.{textOf, linesTo, tableLines, refusalLine}
 

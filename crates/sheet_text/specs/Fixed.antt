@@ -5,7 +5,7 @@ use Prim.Native.Nat.{ℕ, zero, suc, _+_, _-_, _≤_}
 use lib.ListN.{length, getD, replicate}
 use lib.IntN.{ℤ, pos, negsuc}
 use Rattle.model.specs.Sheet.{text, numeral, sheetLine, header}
-use Rattle.table.specs.Output.{laid}
+use Rattle.record_writer.specs.Output.{laid}
 use Rattle.sheet_text.specs.declared.Text.{Text}
 
 -- the text that has these bytes: they stand first, and zeros behind them

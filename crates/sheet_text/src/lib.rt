@@ -33,7 +33,7 @@ pub fn text_of(input: &[u8]) -> Text
     ensures { λ r. ⌜ r ≡ textOf (sheet (now (input .entry))) ⌝ }
 {
     let end = used(input.len());
-    let reading = table::read(&input[..end]);
+    let reading = table_file::read(&input[..end]);
     let t = reading.table;
     let answer = bounds::bounds_of(t);
     let refused = first_refusal(reading.refused, answer.refused);

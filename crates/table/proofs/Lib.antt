@@ -3,14 +3,4 @@ pub mod Bags
 pub mod Ranges
 pub mod Refusals
 pub mod Links
-pub mod Laid
-pub mod Numbers
-pub mod Written
-pub mod Answers
-pub mod Due
-pub mod Cases
-pub mod ReadSteps
-pub mod Taken
-pub mod Turns
-pub mod Rows
 pub mod Shown

@@ -1,7 +1,6 @@
 // The checks of a table: counts (3), each link (4, then 5), sizes (6).
 use crate::Table;
 use crate::VirtualLink;
-use crate::bytes;
 ghost use mathlib.Core.Path.{_≡_};
 ghost use mathlib.Core.Bool.{true};
 ghost use mathlib.Core.Option.{none};
@@ -11,7 +10,13 @@ ghost use Rattle.model.specs.Table.{countsInRange, fieldsInRange, linkChecks, l
 ghost use Rattle.table.specs.View.{linkOf, linksOf};
 ghost use Rattle.table.specs.Checks.{previousOf};
 
-pub(crate) fn counts_in_range(lines: u16, count: u16) -> bool
+fn wide16(x: u8) -> u16
+    ensures { λ r. ⌜ (r ≡ x) × (r ≤ 255) ⌝ }
+{
+    x as u16
+}
+
+pub fn counts_in_range(lines: u16, count: u16) -> bool
     ensures { λ r. ⌜ r ≡ countsInRange lines count ⌝ }
 {
     if lines < 1 {
@@ -30,7 +35,7 @@ pub(crate) fn counts_in_range(lines: u16, count: u16) -> bool
 fn fields_in_range(lines: u16, link: VirtualLink) -> bool
     ensures { λ r. ⌜ ((n : ℕ) → n ≤ 65535 → r ≡ fieldsInRange lines (linkOf n link)) ⌝ }
 {
-    if lines <= bytes::wide16(link.line) {
+    if lines <= wide16(link.line) {
         return false;
     }
     if 7 < link.priority {
@@ -52,13 +57,7 @@ fn fields_in_range(lines: u16, link: VirtualLink) -> bool
 }
 
 // 4, then 5. The link has so many before it, the last of them with the previous number.
-pub(crate) fn link_refusal(
-    lines: u16,
-    before: usize,
-    previous: u16,
-    number: u16,
-    link: VirtualLink,
-) -> u32
+pub fn link_refusal(lines: u16, before: usize, previous: u16, number: u16, link: VirtualLink) -> u32
     ensures { λ r. ⌜ r ≡ firstMet (linkChecks lines (previousOf before previous) (linkOf number link)) ⌝ }
 {
     if !fields_in_range(lines, link) {
@@ -94,7 +93,7 @@ pub(crate) fn links_refusal(t: Table) -> u32
     0
 }
 
-pub(crate) fn sizes_refusal(sizes: [u32; 8]) -> u32
+pub fn sizes_refusal(sizes: [u32; 8]) -> u32
     ensures { λ r. ⌜ r ≡ firstMet (sizeChecks sizes) ⌝ }
 {
     let mut i: usize = 0;

@@ -1,18 +1,10 @@
-// The table record: its checks, the file reader, the file writer.
-mod bytes;
-mod checks;
-mod records;
-mod steps;
-mod walk;
-mod writer;
+// The table record, and its checks.
+pub mod checks;
 
 ghost use mathlib.Core.Path.{_≡_};
 ghost use Rattle.model.specs.Link.{bagOf};
 ghost use Rattle.model.specs.Table.{blankTable, tableRefusal};
-ghost use Rattle.model.specs.TableFile.{readTable};
 ghost use Rattle.table.specs.View.{blankFields, viewOf, recordOf};
-ghost use Rattle.table.specs.Records.{readingOf};
-ghost use Rattle.table.specs.Output.{Wrote};
 
 pub struct VirtualLink {
     pub line: u8,
@@ -30,26 +22,6 @@ pub struct Table {
     pub numbers: [u16; 256],
     pub links: [VirtualLink; 256],
     pub sizes: [u32; 8],
-}
-
-// A record of the table file: counts of lines and links, a link with its number, the sizes; or the refusal.
-pub enum Record {
-    Counts(u16, u16),
-    Link(u16, VirtualLink),
-    Sizes(u32, u32, u32, u32, u32, u32, u32, u32),
-    Refused(u32),
-}
-
-// The number of a refusal and no table, which is the blank one; or 0 and the table.
-pub struct Reading {
-    pub refused: u32,
-    pub table: Table,
-}
-
-// The number of a refusal, or 0 and the bytes written.
-pub struct Writing {
-    pub refused: u32,
-    pub written: usize,
 }
 
 // The BAG of a code, in ticks; a code above 7 has the last.
@@ -83,7 +55,8 @@ pub fn check(t: Table) -> u32
     checks::sizes_refusal(sizes)
 }
 
-fn blank_link() -> VirtualLink
+// What stands behind the count of a table that was read.
+pub fn blank_link() -> VirtualLink
     ensures { λ r. ⌜ r ≡ blankFields ⌝ }
 {
     VirtualLink {
@@ -96,56 +69,16 @@ fn blank_link() -> VirtualLink
     }
 }
 
-// No table beside the number of the refusal.
-fn refused(number: u32) -> Reading
-    ensures { λ r. ⌜ r ≡ record { refused = number; table = recordOf blankTable } ⌝ }
+// No table: it meets check 3.
+pub fn blank() -> Table
+    ensures { λ r. ⌜ r ≡ recordOf blankTable ⌝ }
 {
     let blank = blank_link();
-    Reading {
-        refused: number,
-        table: Table {
-            lines: 0,
-            count: 0,
-            numbers: [0u16; 256],
-            links: [blank; 256],
-            sizes: [0u32; 8],
-        },
-    }
-}
-
-// The table of a file, record by record; entries behind its count are blank.
-// A refusal, 1 to 7, stands beside the blank table.
-pub fn read(file: &[u8]) -> Reading
-    ensures { λ r. ⌜ r ≡ readingOf (readTable (now (file .entry))) ⌝ }
-{
-    walk::read(file)
-}
-
-// Writes the file of a table into the lent output, and answers its length; bytes behind it stay.
-// A refusal, 3 to 6 or 9, writes to no byte.
-pub fn write(t: Table, out: &mut [u8]) -> Writing
-    ensures { λ r. ⌜ Wrote (viewOf t) (now (out .entry)) (now (out .exit)) r ⌝ }
-{
-    let refused = check(t);
-    if refused != 0 {
-        return Writing {
-            refused,
-            written: 0,
-        };
-    }
-    let at = 8 + 18 * (t.count as usize);
-    if out.len() < at + 36 {
-        return Writing {
-            refused: 9,
-            written: 0,
-        };
-    }
-    let sizes = t.sizes;
-    writer::counts_record(out, t.lines, t.count);
-    writer::link_records(out, t);
-    writer::sizes_record(out, at, sizes);
-    Writing {
-        refused: 0,
-        written: at + 36,
+    Table {
+        lines: 0,
+        count: 0,
+        numbers: [0u16; 256],
+        links: [blank; 256],
+        sizes: [0u32; 8],
     }
 }

@@ -5,12 +5,12 @@ use Prim.Native.Nat.{ℕ, zero, suc}
 use native.Mathlib.Omega.{arith}
 use Rattle.model.specs.Table.{Table}
 use Rattle.model.specs.TableFile.{Reading, readTable, Writing, writeTable}
-use Rattle.table.specs.declared.Reading.{Reading as ReadingRecord}
-use Rattle.table.specs.declared.Writing.{Writing as WritingRecord}
+use Rattle.table_file.specs.declared.Reading.{Reading as ReadingRecord}
+use Rattle.table_file.specs.declared.Writing.{Writing as WritingRecord}
 use Rattle.table.specs.View.{viewOf, recordOf}
-use Rattle.table.specs.Records.{readingOf}
-use Rattle.table.specs.Output.{Wrote}
-use Rattle.table.proofs.Shown.{read-shown}
+use Rattle.table_file.specs.Answers.{readingOf}
+use Rattle.table_file.specs.Answers.{Wrote}
+use Rattle.table_file.proofs.Back.{read-shown}
 use Rattle.table_c.specs.Copied.{copyOr, copyOf, Copied}
 
 refused-nothing : (n : ℕ) (t : Table) (output : List ℕ) → (n ≡ 0 → ⊥) → (copyOr n t output .written ≡ 0) × (copyOr n t output .output ≡ output)

@@ -8,7 +8,7 @@ ghost use Rattle.table_c.specs.Copied.{Copied};
 pub extern "C" fn table_c_refusal(file: &[u8]) -> u32
     ensures { λ r. ⌜ r ≡ readTable (now (file .entry)) .refused ⌝ }
 {
-    let reading = table::read(file);
+    let reading = table_file::read(file);
     reading.refused
 }
 
@@ -18,11 +18,11 @@ pub extern "C" fn table_c_refusal(file: &[u8]) -> u32
 pub extern "C" fn table_c_copy(file: &[u8], out: &mut [u8]) -> usize
     ensures { λ r. ⌜ Copied (now (file .entry)) (now (out .entry)) (now (out .exit)) r ⌝ }
 {
-    let reading = table::read(file);
+    let reading = table_file::read(file);
     if reading.refused != 0 {
         return 0;
     }
     let t = reading.table;
-    let writing = table::write(t, out);
+    let writing = table_file::write(t, out);
     writing.written
 }

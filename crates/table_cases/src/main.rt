@@ -56,7 +56,7 @@ fn one_case(form: u8, length: isize, body: &[u8]) {
 
 // A file is read, and written again if it is a table.
 fn file_case(file: &[u8]) {
-    let reading = table::read(file);
+    let reading = table_file::read(file);
     if reading.refused != 0 {
         say(b"refused ");
         print(reading.refused as u64);
@@ -65,7 +65,7 @@ fn file_case(file: &[u8]) {
     }
     let mut output = [0xA5u8; OUTPUT];
     let t = reading.table;
-    let writing = table::write(t, &mut output);
+    let writing = table_file::write(t, &mut output);
     let written = writing.written;
     say(b"table ");
     print(t.lines as u64);
@@ -89,7 +89,7 @@ fn record_case(body: &[u8]) {
     print(table::check(t) as u64);
     let mut output = [0xA5u8; OUTPUT];
     let length = io::count(two(body, 4) as isize, &output);
-    let writing = table::write(t, &mut output[..length]);
+    let writing = table_file::write(t, &mut output[..length]);
     if writing.refused != 0 {
         say(b" refused ");
         print(writing.refused as u64);

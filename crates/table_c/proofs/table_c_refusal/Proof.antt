@@ -1,7 +1,7 @@
 -- The refusal is that of the reader.
 use mathlib.Core.Path.{ap}
 use borrow.Author.Needs.{needs}
-use Rattle.table.specs.declared.Reading.{Reading}
+use Rattle.table_file.specs.declared.Reading.{Reading}
 use Rattle.table_c.proofs.table_c_refusal.Statement.{statement}
 use Rattle.table_c.proofs.table_c_refusal.Tie as tie
 

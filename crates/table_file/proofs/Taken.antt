@@ -1,0 +1,72 @@
+-- What is held of a record that is taken in, case by case.
+use mathlib.Core.Path.{_≡_, refl}
+use mathlib.Core.List.{List, [], _∷_}
+use Prim.Native.Nat.{ℕ, _-_, _≤_, _<_}
+use borrow.Author.Tests.{eq-eqb, ne-eqb, lt-ltb, le-ltb}
+use types.Run.{OneOf, miss}
+use denote.Enum.Declared.{tagOf}
+use Rattle.model.specs.Table.{blankTable}
+use Rattle.table.specs.declared.VirtualLink.{VirtualLink as LinkFields}
+use Rattle.record_reader.specs.declared.Record.{Record}
+use Rattle.record_reader.specs.declared.Record.the-variants.{Counts, Link, Sizes, Refused}
+use Rattle.table_file.specs.declared.Reading.{Reading as ReadingRecord}
+use Rattle.table_file.specs.declared.steps.Step.{Step}
+use Rattle.record_reader.specs.Records.{said}
+use Rattle.table_file.specs.Steps.{stopStep, countsStep, linkStep, stepOf, endedOf}
+use Rattle.table.specs.View.{recordOf}
+use Rattle.record_reader.proofs.Record.{the-type}
+
+-- ---- which step it is
+module _ (x : Record) (read : ℕ) (before : Step) where
+  pub step-counts : read ≡ 0 → stepOf x read before ≡ countsStep x before
+  unfolding stepOf
+  step-counts z = rw (eq-eqb read 0 z)
+
+  module _ (z : read ≡ 0 → ⊥) where
+    pub step-link : read ≤ before .count → stepOf x read before ≡ linkStep x read before
+    unfolding stepOf
+    step-link h = rw (ne-eqb read 0 z, le-ltb (before .count) read h)
+
+    pub step-sizes : before .count < read → stepOf x read before ≡ stopStep (said x .refused) before
+    unfolding stepOf
+    step-sizes h = rw (ne-eqb read 0 z, lt-ltb (before .count) read h)
+
+-- ---- the step of each record
+pub counts-in : (x : Record) (lines n : ℕ) (before : Step) → x ≡ Counts lines n → countsStep x before ≡ record { refused = 0; taken = 8; count = n; lines = lines; at = 0; number = 0; link = before .link }
+unfolding countsStep
+counts-in x lines n before e = rw e
+
+pub counts-else : (x : Record) (m : ℕ) (before : Step) → OneOf (1 ∷ 2 ∷ 3 ∷ []) (tagOf the-type x) → m ≡ said x .refused → countsStep x before ≡ stopStep m before
+unfolding countsStep
+counts-else (Counts lines n) m before o e = absurd (miss (1 ∷ 2 ∷ 3 ∷ []) 0 tt o)
+counts-else (Link number v) m before o e = rw e
+counts-else (Sizes a b c d f g h i) m before o e = rw e
+counts-else (Refused n) m before o e = rw e
+
+pub link-in : (x : Record) (number : ℕ) (v : LinkFields) (read : ℕ) (before : Step) → x ≡ Link number v
+    → linkStep x read before ≡ record { refused = 0; taken = 18; count = before .count; lines = before .lines; at = read - 1; number = number; link = v }
+unfolding linkStep
+link-in x number v read before e = rw e
+
+pub link-else : (x : Record) (m read : ℕ) (before : Step) → OneOf (0 ∷ 2 ∷ 3 ∷ []) (tagOf the-type x) → m ≡ said x .refused → linkStep x read before ≡ stopStep m before
+unfolding linkStep
+link-else (Counts lines n) m read before o e = rw e
+link-else (Link number v) m read before o e = absurd (miss (0 ∷ 2 ∷ 3 ∷ []) 1 tt o)
+link-else (Sizes a b c d f g h i) m read before o e = rw e
+link-else (Refused n) m read before o e = rw e
+
+-- ---- the answer
+module _ (step : Step) (numbers : List ℕ) (links : List LinkFields) where
+  pub ended-sizes : (x : Record) (a b c d f g h i : ℕ) → x ≡ Sizes a b c d f g h i
+      → _≡_ {A = ReadingRecord}
+      (record { refused = 0; table = record { lines = step .lines; count = step .count; numbers = numbers; links = links; sizes = a ∷ b ∷ c ∷ d ∷ f ∷ g ∷ h ∷ i ∷ [] } })
+      (endedOf x step numbers links)
+  unfolding endedOf
+  ended-sizes x a b c d f g h i e = rw e
+
+  pub ended-else : (x : Record) → OneOf (0 ∷ 1 ∷ 3 ∷ []) (tagOf the-type x) → _≡_ {A = ReadingRecord} (record { refused = step .refused; table = recordOf blankTable }) (endedOf x step numbers links)
+  unfolding endedOf
+  ended-else (Counts lines n) o = refl
+  ended-else (Link number v) o = refl
+  ended-else (Sizes a b c d f g h i) o = absurd (miss (0 ∷ 1 ∷ 3 ∷ []) 2 tt o)
+  ended-else (Refused n) o = refl
