@@ -2,4 +2,3 @@ pub mod All
 pub mod Entries
 pub mod Frames
 pub mod Sending
-pub mod QueueTests

@@ -19,8 +19,9 @@ use Rattle.scheduler.specs.declared.Queue.{Queue}
 use Rattle.scheduler.specs.View.{queuesOf, marksOf, senderOf}
 use Rattle.port.specs.declared.Port.{Port as PortRecord}
 use Rattle.port.specs.View.{tableOf, portOf}
-use Rattle.fitness.specs.declared.Fitness.{Fitness}
-use Rattle.fitness.specs.Conditions.{queuesFit, linesFit, ticksFit, creditsFit, Told}
+use Rattle.fitness.specs.Conditions.{linesFit, ticksFit, creditsFit}
+use Rattle.queue_fitness.specs.declared.Fitness.{Fitness}
+use Rattle.queue_fitness.specs.Queues.{queuesFit, Told}
 use Rattle.port.specs.Fitness.{conditions, Tested}
 use Rattle.fitness.proofs.All.{not-both, same-truth, all-four, any-false}
 

@@ -9,8 +9,9 @@ use Rattle.model.specs.Machine.{framesHeld}
 use Rattle.model.specs.Report.{senderFit, fit}
 use Rattle.table.specs.View.{viewOf}
 use Rattle.scheduler.specs.View.{queuesOf, senderOf}
-use Rattle.fitness.specs.declared.Fitness.{Fitness}
-use Rattle.fitness.specs.Conditions.{queuesFit, linesFit, ticksFit, creditsFit}
+use Rattle.fitness.specs.Conditions.{linesFit, ticksFit, creditsFit}
+use Rattle.queue_fitness.specs.declared.Fitness.{Fitness}
+use Rattle.queue_fitness.specs.Queues.{queuesFit}
 use Rattle.port.specs.declared.Port.{Port as PortRecord}
 use Rattle.port.specs.View.{tableOf, portOf}
 

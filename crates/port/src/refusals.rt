@@ -1,8 +1,8 @@
 // The refusals of a report, 10 to 16, in order.
 use crate::Port;
 use crate::Report;
-use fitness::Fitness;
 use lookup::wide;
+use queue_fitness::Fitness;
 ghost use mathlib.Core.Path.{_≡_};
 ghost use Rattle.model.specs.Basics.{firstMet};
 ghost use Rattle.model.specs.Table.{Table as TableOf};
@@ -50,21 +50,21 @@ fn fit(p: Port) -> Fitness
 {
     let t = p.table;
     if table::check(t) != 0 {
-        return fitness::unfit();
+        return queue_fitness::unfit();
     }
     let clock = p.clock;
     if 281474976710655 < clock {
-        return fitness::unfit();
+        return queue_fitness::unfit();
     }
     let queues = p.queues;
     let sender = p.sender;
-    let queued = fitness::queues_fit(t, queues, sender, clock);
+    let queued = queue_fitness::queues_fit(t, queues, sender, clock);
     if !queued.fits {
-        return fitness::unfit();
+        return queue_fitness::unfit();
     }
     let line_ticks = p.line_ticks;
     if !fitness::lines_fit(line_ticks, t.lines, clock) {
-        return fitness::unfit();
+        return queue_fitness::unfit();
     }
     let accounts = p.accounts;
     Fitness {

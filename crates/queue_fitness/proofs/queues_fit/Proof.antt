@@ -11,13 +11,13 @@ use Rattle.model.specs.Machine.{framesHeld}
 use Rattle.scheduler.specs.View.{blankQueue, queuesOf, senderOf}
 use Rattle.scheduler.proofs.Shape.{queues-eight}
 use Rattle.scheduler.proofs.Sums.{frames-none, frames-more}
-use Rattle.fitness.specs.Conditions.{queueFits}
+use Rattle.queue_fitness.specs.Queues.{queueFits}
 use Rattle.fitness.proofs.All.{all-none, all-more}
 use Rattle.lookup.proofs.Tables.{counts-pass}
-use Rattle.fitness.proofs.QueueTests.{too-many, load-unfit, mark-above, queue-fits, none-queued, queue-told, sender-told, all-told}
+use Rattle.queue_fitness.proofs.QueueTests.{too-many, load-unfit, mark-above, queue-fits, none-queued, queue-told, sender-told, all-told}
 use Rattle.fitness.proofs.Sending.{sends-nothing, no-queue}
-use Rattle.fitness.proofs.queues_fit.Statement.{statement}
-use Rattle.fitness.proofs.queues_fit.Tie as tie
+use Rattle.queue_fitness.proofs.queues_fit.Statement.{statement}
+use Rattle.queue_fitness.proofs.queues_fit.Tie as tie
 
 abbrev Inv-loop : tie.InvT-loop
 Inv-loop sender clock t queues guesses₀ frames₀ i₀ guesses frames i =

@@ -2,8 +2,8 @@ use mathlib.Core.Path.{_≡_, refl}
 use Prim.Native.Nat.{ℕ, _-_, _≤_}
 use native.Mathlib.Omega.{arith}
 use lib.ListN.{length, length-set, length-replicate}
-use Rattle.fitness.proofs.guesses_of.Statement.{statement}
-use Rattle.fitness.proofs.guesses_of.Tie as tie
+use Rattle.queue_fitness.proofs.guesses_of.Statement.{statement}
+use Rattle.queue_fitness.proofs.guesses_of.Tie as tie
 
 abbrev Inv-loop : tie.InvT-loop
 Inv-loop numbers count guesses₀ n i₀ guesses i = (i ≤ n) × (n ≡ count) × (length guesses ≡ 1024)

@@ -11,9 +11,9 @@ use Rattle.scheduler.specs.View.{framesOf}
 use Rattle.scheduler.proofs.Shape.{queue-whole}
 use Rattle.scheduler.proofs.Sums.{bytesBefore, bytes-none, bytes-more, bytes-all}
 use Rattle.lookup.proofs.Tables.{passing}
-use Rattle.fitness.proofs.QueueTests.{sum-decides, unnamed, unfit, goes-on}
-use Rattle.fitness.proofs.load_fits.Statement.{statement}
-use Rattle.fitness.proofs.load_fits.Tie as tie
+use Rattle.queue_fitness.proofs.QueueTests.{sum-decides, unnamed, unfit, goes-on}
+use Rattle.queue_fitness.proofs.load_fits.Statement.{statement}
+use Rattle.queue_fitness.proofs.load_fits.Tie as tie
 
 abbrev Inv-loop : tie.InvT-loop
 Inv-loop guesses priority clock t q count n low₀ sum₀ i₀ low sum i =

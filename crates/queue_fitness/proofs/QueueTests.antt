@@ -22,14 +22,15 @@ use Rattle.scheduler.specs.declared.Sender.{Sender as SenderRecord}
 use Rattle.scheduler.specs.View.{frameOf, blankEntry, blankQueue, framesOf, queuesOf, marksOf, senderOf}
 use Rattle.scheduler.proofs.Shown.{count-shown, queue-shown, queue-count}
 use Rattle.scheduler.proofs.Sums.{frames-all}
-use Rattle.fitness.specs.declared.Fitness.{Fitness}
+use Rattle.queue_fitness.specs.declared.Fitness.{Fitness}
 use Rattle.lookup.specs.declared.Place.{Place}
 use Rattle.lookup.specs.declared.Place.the-variants.{At, Nowhere}
 use Rattle.lookup.specs.Places.{placeNumber, Found}
-use Rattle.fitness.specs.Conditions.{frameFits, loadFits, queueFits, queuesFit, Told}
+use Rattle.fitness.specs.Conditions.{frameFits}
+use Rattle.queue_fitness.specs.Queues.{loadFits, queueFits, queuesFit, Told}
 use Rattle.fitness.proofs.All.{not-both, same-truth, any-false, all-stops, all-end}
 use Rattle.lookup.proofs.Tables.{Passing, passing}
-use Rattle.fitness.proofs.Frames.{frame-shown, names-none, names-one, frames-end}
+use Rattle.queue_fitness.proofs.Frames.{frame-shown, names-none, names-one, frames-end}
 
 -- ---- the frames of a queue
 module _ (t : TableRecord) (q : Queue) (p clock low i : ℕ)
