@@ -25,9 +25,9 @@ use Rattle.table.specs.declared.Table.{Table as TableRecord}
 use Rattle.table.specs.View.{linkOf, fieldsOf, blankFields, linksOf, viewOf}
 use Rattle.table.proofs.Shape.{sized, count-shown, link-shown}
 use Rattle.table.proofs.Table.{the-type}
+use Rattle.arrivals.specs.Fit.{FitLink, Fit}
 use Rattle.bounds.specs.declared.Bounds.{Bounds}
 use Rattle.bounds.specs.declared.limits.Limits.{Limits}
-use Rattle.bounds.specs.Fit.{FitLink, Fit}
 use Rattle.bounds.specs.Limits.{found, Limited}
 use Rattle.bounds.specs.Answer.{boundsRecord}
 use Rattle.bounds.proofs.Climbing.{found-some}

@@ -1,12 +1,3 @@
-pub mod Sums
-pub mod Fitting
-pub mod Loading
-pub mod Bending
-pub mod Highest
-pub mod Steadiness
-pub mod Improving
-pub mod Views
 pub mod Climbing
-pub mod Stretching
 pub mod Limiting
 pub mod Answering

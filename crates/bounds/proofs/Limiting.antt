@@ -15,12 +15,12 @@ use Rattle.model.proofs.Holds.{up-grows}
 use Rattle.table.specs.declared.Table.{Table as TableRecord}
 use Rattle.table.specs.View.{linksOf, viewOf}
 use Rattle.table.proofs.Shape.{count-shown}
-use Rattle.bounds.specs.Fit.{Fit}
-use Rattle.bounds.specs.Peaks.{Highest}
-use Rattle.bounds.specs.Stretches.{Given}
+use Rattle.arrivals.specs.Fit.{Fit}
+use Rattle.arrivals.proofs.Fitting.{view-link}
+use Rattle.backlog.specs.Peaks.{Highest}
+use Rattle.backlog.specs.Stretches.{Given}
+use Rattle.backlog.proofs.Highest.{highest-is, highest-first}
 use Rattle.bounds.specs.Limits.{Climbed, windowWithin, Limited}
-use Rattle.bounds.proofs.Fitting.{view-link}
-use Rattle.bounds.proofs.Highest.{highest-is, highest-first}
 
 -- ---- a set has a link exactly if its greatest length is not 0
 any-longest : (s : VirtualLink → Bool) (links : List VirtualLink) → ((i : ℕ) → i < length links → 84 ≤ linkAt links i .greatest) → anyOf s links ≡ true

@@ -1,12 +1,10 @@
 // The longest busy period of a priority and of those before it: the hold.
-use crate::arrivals;
-use crate::numbers;
 use table::Table;
 ghost use mathlib.Core.Path.{_≡_};
 ghost use Prim.Native.Nat.{_≤_};
 ghost use Rattle.model.specs.Bounds.{blocking};
 ghost use Rattle.table.specs.View.{viewOf};
-ghost use Rattle.bounds.specs.Fit.{Fit};
+ghost use Rattle.arrivals.specs.Fit.{Fit};
 ghost use Rattle.bounds.specs.Limits.{Climbed};
 
 // b: what a frame of a later priority, already on its way, has still to send.
@@ -15,7 +13,7 @@ pub(crate) fn blocking_of(t: Table, p: u8) -> u64
     ensures { λ r. ⌜ (r ≡ blocking (viewOf t) p) × (r ≤ 1538) ⌝ }
 {
     let beyond = p + 1;
-    numbers::excess(arrivals::longest(t, beyond, 7), 1)
+    arrivals::excess(arrivals::longest(t, beyond, 7), 1)
 }
 
 // The hold, or 0 if there is none, by climbing: b + A_up(w - 1) never passes the smallest hold.

@@ -1,9 +1,6 @@
 // Holds and bounds of a table.
-mod arrivals;
 mod busy;
 mod limits;
-mod numbers;
-mod stretch;
 
 use table::Table;
 ghost use mathlib.Core.Path.{_≡_};

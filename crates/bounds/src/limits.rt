@@ -1,11 +1,9 @@
 // Hold and bound of one priority, with the first window at which the bound occurs.
-use crate::arrivals;
 use crate::busy;
-use crate::stretch;
 use table::Table;
 ghost use Prim.Native.Nat.{_≤_};
 ghost use Rattle.table.specs.View.{viewOf};
-ghost use Rattle.bounds.specs.Fit.{Fit};
+ghost use Rattle.arrivals.specs.Fit.{Fit};
 ghost use Rattle.bounds.specs.Limits.{Limited};
 
 // A hold of 0 is none.
@@ -36,7 +34,7 @@ pub(crate) fn limits_of(t: Table, p: u8) -> Limits
             window: 0,
         };
     }
-    let peak = stretch::peak_of(t, p, b, m, hold - 1);
+    let peak = backlog::peak_of(t, p, b, m, hold - 1);
     Limits {
         hold: hold as u32,
         bound: peak.backlog as u32,

@@ -2,8 +2,8 @@ use mathlib.Core.Path.{refl, _∙_}
 use Prim.Native.Nat.{_+_, _-_}
 use native.Mathlib.Omega.{arith}
 use Rattle.table.specs.View.{viewOf}
+use Rattle.arrivals.proofs.Views.{up-arrivals}
 use Rattle.bounds.proofs.Climbing.{Unheld, unheld-start, unheld-climb, climbed-here, climbed-none}
-use Rattle.bounds.proofs.Views.{up-arrivals}
 use Rattle.bounds.proofs.busy.hold_of.Statement.{statement}
 use Rattle.bounds.proofs.busy.hold_of.Tie as tie
 

@@ -2,7 +2,7 @@ use mathlib.Core.Path.{_∙_}
 use Prim.Native.Nat.{_-_}
 use native.Mathlib.Omega.{arith}
 use Rattle.table.specs.View.{viewOf}
-use Rattle.bounds.proofs.Views.{longest-is}
+use Rattle.arrivals.proofs.Views.{longest-is}
 use Rattle.bounds.proofs.Limiting.{none-of, some-of, limited-none, limited-idle, limited-busy, bound-fits, given-hold}
 use borrow.Author.Needs.{needs}
 use Rattle.bounds.proofs.limits.limits_of.Statement.{statement}

@@ -1,0 +1,4 @@
+pub mod Sums
+pub mod Fitting
+pub mod Loading
+pub mod Views

@@ -1,0 +1,31 @@
+use mathlib.Core.Path.{_∙_}
+use native.Mathlib.Omega.{arith}
+use Rattle.table.specs.View.{linksOf}
+use Rattle.arrivals.specs.Loads.{between, less}
+use Rattle.arrivals.proofs.Loading.{tops-few, flow-is}
+use borrow.Author.Needs.{needs}
+use Rattle.arrivals.proofs.arrivals.Statement.{statement}
+use Rattle.arrivals.proofs.arrivals.Tie as tie
+
+loads-of-requires : tie.Need-loads-of-requires
+loads-of-requires c κs = search needs
+
+index-requires : tie.Need-index-requires
+index-requires c κs = search needs
+
+total-requires : tie.Need-total-requires
+total-requires c κs =
+    let s = c .before .before in
+    (omega arith, s .pre .1, tops-few (s .args .t) (s .pre .0) (between (s .args .low) (s .args .high)) 0 (s .args .w) (s .pre .1) (c .before .loads-of .result) (c .before .loads-of .ensures))
+
+returns : tie.Need-returns
+returns c =
+    let s = c .before .before .before in
+    let d = c .before .before .loads-of in
+    let e = rw (c .before .index .ensures) at (c .total .ensures .0) in (
+      e ∙ flow-is (less 0) (between (s .args .low) (s .args .high)) (linksOf (s .args .t)) (s .args .w) (d .result) (s .args .t .lines) (s .pre .0 .lines) (d .ensures),
+      omega arith,
+    )
+
+pub arrivals-spec : {M : Type 1} → statement M
+arrivals-spec = tie.close (tie.spec loads-of-requires index-requires total-requires returns)

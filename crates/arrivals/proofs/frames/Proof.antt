@@ -1,0 +1,33 @@
+use native.Mathlib.Omega.{arith}
+use Rattle.arrivals.proofs.Fitting.{frames-few, frames-are}
+use borrow.Author.Needs.{needs}
+use Rattle.arrivals.proofs.frames.Statement.{statement}
+use Rattle.arrivals.proofs.frames.Tie as tie
+
+wide32-requires : tie.Need-wide32-requires
+wide32-requires c κs = search needs
+
+add-result : tie.Need-add-result
+add-result c = search needs
+
+cast-result : tie.Need-cast-result
+cast-result c = search needs
+
+shr-result : tie.Need-shr-result
+shr-result c = omega (arith, c .before .before .pre .0 .code)
+
+add-result-2 : tie.Need-add-result-2
+add-result-2 c =
+    let s = c .before .before in
+    omega (arith, frames-few (s .args .l) (s .pre .0) (s .args .w) (c .before .wide32 .result) (c .before .wide32 .ensures) (s .pre .1))
+
+returns : tie.Need-returns
+returns c =
+    let s = c .before .before in (
+      frames-are (s .args .l) (s .pre .0) (s .args .w) (c .before .wide32 .result) (c .before .wide32 .ensures),
+      omega (arith, frames-few (s .args .l) (s .pre .0) (s .args .w) (c .before .wide32 .result) (c .before .wide32 .ensures) (s .pre .1)),
+    )
+
+pub frames-spec : {M : Type 1} → statement M
+frames-spec =
+    tie.close (tie.spec wide32-requires add-result cast-result shr-result add-result-2 returns)

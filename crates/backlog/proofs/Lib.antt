@@ -1,0 +1,5 @@
+pub mod Bending
+pub mod Highest
+pub mod Steadiness
+pub mod Improving
+pub mod Stretching
