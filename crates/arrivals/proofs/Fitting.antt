@@ -2,7 +2,7 @@
 use mathlib.Core.Path.{_≡_, refl}
 use mathlib.Core.Bool.{Bool, true, false}
 use Prim.Native.Nat.{ℕ, zero, suc, _+_, _*_, _/_, _^_, _≤_, _<_}
-use native.Mathlib.Nat.{div-lt-iff-lt-mul, div-div-eq-div-mul, mul-le-mul-left}
+use native.Mathlib.Nat.{div-le-self, div-lt-iff-lt-mul, div-div-eq-div-mul, mul-le-mul-left}
 use native.Mathlib.Omega.{arith}
 use lib.Dec.{leb}
 use borrow.Author.Tests.{le-leb, lt-leb}
@@ -35,6 +35,10 @@ bag-fits (suc (suc (suc (suc (suc (suc (suc (suc n)))))))) = record { least = om
 
 pub div-few : (x b : ℕ) → 12_500 ≤ b → x ≤ 190_536 → x / b ≤ 15
 div-few x b h k = let z : x / b < 16 = div-lt-iff-lt-mul {k = b} {x = x} {y = 16} (omega arith) .1 (omega arith) in omega arith
+
+-- a number of frames fits, whatever the ticks are divided by
+pub quotient-fits : (x b n : ℕ) → x ≤ 190_536 → 1 + x / b / n < 2 ^ 64
+quotient-fits x b n h = omega (arith, div-le-self (x / b) n, div-le-self x b)
 
 bag-power : (code : ℕ) → code ≤ 7 → bagOf code ≡ 12_500 * 2 ^ code
 unfolding bagOf

@@ -1,5 +1,5 @@
 use native.Mathlib.Omega.{arith}
-use Rattle.arrivals.proofs.Fitting.{frames-few, frames-are}
+use Rattle.arrivals.proofs.Fitting.{quotient-fits, frames-few, frames-are}
 use borrow.Author.Needs.{needs}
 use Rattle.arrivals.proofs.frames.Statement.{statement}
 use Rattle.arrivals.proofs.frames.Tie as tie
@@ -19,7 +19,7 @@ shr-result c = omega (arith, c .before .before .pre .0 .code)
 add-result-2 : tie.Need-add-result-2
 add-result-2 c =
     let s = c .before .before in
-    omega (arith, frames-few (s .args .l) (s .pre .0) (s .args .w) (c .before .wide32 .result) (c .before .wide32 .ensures) (s .pre .1))
+    record { fits = quotient-fits _ _ _ (omega (arith, s .pre .0 .jitter, s .pre .1)) }
 
 returns : tie.Need-returns
 returns c =
