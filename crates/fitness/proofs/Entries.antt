@@ -2,8 +2,7 @@
 use mathlib.Core.Path.{_≡_, _∙_}
 use mathlib.Core.Bool.{true, false}
 use mathlib.Core.List.{List, map}
-use Prim.Native.Nat.{ℕ, zero, suc, _+_, _≤_, _<_}
-use native.Mathlib.Omega.{arith}
+use Prim.Native.Nat.{ℕ, _+_, _≤_, _<_}
 use borrow.Author.Tests.{lt-leb, le-leb}
 use lib.ListN.{length, getD, length-map, List·getD-map}
 use lib.Seq.{getD-take}
@@ -34,19 +33,6 @@ pub account-shown : (accounts : List AccountRecord) (n i : ℕ) → n ≤ length
 account-shown accounts n i h k =
     entry-shown blankAccount n (map accountOf accounts) i (rw length-map h) k
     ∙ List·getD-map accountOf accounts i (accountRecord blankAccount)
-
--- a BAG has 21 bits
-pub bag-most : (code : ℕ) → bagOf code ≤ 1_600_000
-unfolding bagOf
-bag-most zero = omega arith
-bag-most (suc zero) = omega arith
-bag-most (suc (suc zero)) = omega arith
-bag-most (suc (suc (suc zero))) = omega arith
-bag-most (suc (suc (suc (suc zero)))) = omega arith
-bag-most (suc (suc (suc (suc (suc zero))))) = omega arith
-bag-most (suc (suc (suc (suc (suc (suc zero)))))) = omega arith
-bag-most (suc (suc (suc (suc (suc (suc (suc zero))))))) = omega arith
-bag-most (suc (suc (suc (suc (suc (suc (suc (suc n)))))))) = omega arith
 
 -- ---- the tests of an entry
 module _ (ticks : List ℕ) (n clock i : ℕ) (w : n ≤ length ticks) (h : i < n) where

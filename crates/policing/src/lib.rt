@@ -1,8 +1,10 @@
-// Internal to the product: the account of a virtual link (a token bucket), and the police check.
+// Internal to the product: the account of a virtual link (a token bucket), the police check, and the accounts at rest.
+use table::Table;
 ghost use mathlib.Core.Path.{_≡_};
-ghost use Prim.Native.Nat.{_+_, _-_, min};
+ghost use Prim.Native.Nat.{_+_, _-_, _≤_, _<_, _^_, min};
 ghost use Rattle.model.specs.Link.{VirtualLink, bag as bagOfLink};
 ghost use Rattle.policing.specs.Check.{checkOf};
+ghost use Rattle.policing.specs.Full.{fullAccounts};
 
 // Credit in ticks, and the tick of its last change.
 pub struct Account {
@@ -70,4 +72,31 @@ pub fn charge(a: &mut Account, bag: u64, jitter: u64, time: u64) -> bool
     let c = police(*a, bag, jitter, time);
     *a = c.account;
     c.passed
+}
+
+fn wide32(x: u32) -> u64
+    ensures { λ r. ⌜ (r ≡ x) × (r < 2 ^ 32) ⌝ }
+{
+    x as u64
+}
+
+// Credit B + J for each link; the accounts behind the count are blank.
+pub fn full_accounts(t: Table) -> [Account; 256]
+    requires { ⌜ t .count ≤ 256 ⌝ }
+    ensures { λ r. ⌜ r ≡ fullAccounts t ⌝ }
+{
+    let n = t.count as usize;
+    let blank = Account { credit: 0, tick: 0 };
+    let mut accounts = [blank; 256];
+    let mut i: usize = 0;
+    while i < n {
+        let link = t.links[i];
+        let full = Account {
+            credit: table::bag(link.code) + wide32(link.jitter),
+            tick: 0,
+        };
+        accounts[i] = full;
+        i += 1;
+    }
+    accounts
 }

@@ -38,11 +38,11 @@ use Rattle.port.specs.declared.Answer.{Answer as AnswerRecord}
 use Rattle.port.specs.declared.Report.{Report as ReportRecord}
 use Rattle.port.specs.declared.Report.the-variants.{Wait, Frame as FrameOf}
 use Rattle.port.specs.declared.charging.Charged.{Charged}
-use Rattle.port.specs.declared.reports.Settled.{Settled}
+use Rattle.storing.specs.declared.Settled.{Settled}
 use Rattle.port.specs.View.{tableOf, portOf, reportOf}
 use Rattle.lookup.specs.Places.{Rising, Found}
 use Rattle.port.specs.Charging.{chargeOf}
-use Rattle.port.specs.Storing.{verdictIf, Roomy, Settles}
+use Rattle.storing.specs.Storing.{verdictIf, Roomy, Settles}
 use Rattle.port.specs.Contracts.{stepOf, Answered}
 use Rattle.lookup.proofs.Tables.{Passing, passing, counts-pass}
 use Rattle.port.proofs.Whole.{Whole}

@@ -1,70 +1,32 @@
--- The fresh port: its accounts, its view, and the blank one.
-use mathlib.Core.Path.{_≡_, refl, sym, ap, _∙_}
-use mathlib.Core.List.{List, [], _∷_, _++_, map, map-append}
-use Prim.Native.Nat.{ℕ, zero, suc, _+_, _≤_, _<_}
-use native.Mathlib.Numerals.{add-one}
+-- The fresh port: its view, and the blank one.
+use mathlib.Core.Path.{_≡_, refl, ap, _∙_}
+use mathlib.Core.List.{List, [], _∷_, map}
+use Prim.Native.Nat.{ℕ, zero, suc, _≤_}
 use native.Mathlib.Omega.{arith}
-use lib.ListN.{length, getD, set, take, replicate, length-map}
-use lib.Seq.{take-suc, take-all, length-take-le}
+use lib.ListN.{length, replicate, length-map}
 use Rattle.model.specs.Basics.{entries}
-use Rattle.model.specs.Link.{VirtualLink, blankLink, bag, bagOf, linkAt}
 use Rattle.model.specs.Table.{Table, blankTable, tableRefusal}
 use Rattle.model.specs.Report.{Account, Port, blankAccount, fullAccount, fresh}
 use Rattle.table.specs.declared.VirtualLink.{VirtualLink as LinkFields}
 use Rattle.table.specs.declared.Table.{Table as TableRecord}
 use Rattle.table.specs.View.{linkOf, fieldsOf, blankFields, linksOf, viewOf, recordOf}
-use Rattle.table.proofs.Shape.{Sized, link-shown, count-shown}
-use Rattle.policing.specs.declared.Account.{Account as AccountRecord}
+use Rattle.table.proofs.Shape.{count-shown}
 use Rattle.policing.specs.Check.{accountOf, accountRecord}
+use Rattle.policing.specs.Full.{fullAccounts}
+use Rattle.policing.proofs.Full.{entries-blank, none-yet}
 use Rattle.model.specs.Machine.{Frame}
 use Rattle.scheduler.specs.View.{framesOf, queuesOf, marksOf}
 use Rattle.port.specs.declared.Port.{Port as PortRecord}
 use Rattle.port.specs.declared.Fresh.{Fresh as FreshRecord}
 use Rattle.port.specs.View.{portOf, emptyQueue, restingPort, freshPort, blankPort}
 use Rattle.port.specs.Contracts.{freshOr, freshOf}
-use Rattle.port.specs.Resting.{fullAccounts, restingWith}
+use Rattle.port.specs.Resting.{restingWith}
 use Rattle.lookup.proofs.Tables.{counts-pass}
 
--- ---- blanks
-entries-blank {ℓ} : {A : Type ℓ} (b : A) (n : ℕ) → entries b n [] ≡ replicate n b
-unfolding entries
-entries-blank b zero = refl
-entries-blank {A = A} b (suc n) = ap (λ (l : List A). b ∷ l) (entries-blank b n)
-
+-- ---- the blank table
 pub blank-made : _≡_ {A = TableRecord} (record { lines = 0; count = 0; numbers = replicate 256 0; links = replicate 256 blankFields; sizes = replicate 8 0 }) (recordOf blankTable)
 unfolding recordOf
 blank-made = rw (entries-blank {A = ℕ} 0 256, entries-blank blankFields 256)
-
--- ---- the accounts, one more
-entries-next {ℓ} : {A : Type ℓ} (b : A) (n : ℕ) (l : List A) (x : A) → length l < n → set (entries b n l) (length l) x ≡ entries b n (l ++ (x ∷ []))
-unfolding entries
-entries-next b zero l x h = absurd (omega arith)
-entries-next b (suc n) [] x h = refl
-entries-next {A = A} b (suc n) (y ∷ l) x h = ap (λ (r : List A). y ∷ r) (entries-next b n l x (omega arith))
-
-abbrev pub accountsOf : List VirtualLink → List AccountRecord
-accountsOf links = entries (accountRecord blankAccount) 256 (map accountRecord (map fullAccount links))
-
-pub none-yet : replicate 256 (accountRecord blankAccount) ≡ accountsOf []
-none-yet = sym (entries-blank (accountRecord blankAccount) 256)
-
-pub one-more : (links : List VirtualLink) (i : ℕ) → i < length links → i < 256 → set (accountsOf (take i links)) i (accountRecord (fullAccount (linkAt links i))) ≡ accountsOf (take (i + 1) links)
-one-more links i h k =
-    let front = map accountRecord (map fullAccount (take i links)) in
-    let n : length front ≡ i = length-map (map fullAccount (take i links)) accountRecord ∙ length-map (take i links) fullAccount ∙ length-take-le i links (omega arith) in
-    let same : set (accountsOf (take i links)) (length front) (accountRecord (fullAccount (linkAt links i))) ≡ entries (accountRecord blankAccount) 256 (front ++ (accountRecord (fullAccount (linkAt links i)) ∷ [])) =
-    entries-next (accountRecord blankAccount) 256 front (accountRecord (fullAccount (linkAt links i))) (omega arith) in
-    (rw n at same) ∙ rw (add-one, take-suc links i blankLink h, map-append fullAccount (take i links) (linkAt links i ∷ []), map-append accountRecord (map fullAccount (take i links)) (fullAccount (linkAt links i) ∷ []))
-
-module _ (t : TableRecord) (s : Sized t) (few : t .count ≤ 256) (i : ℕ) (below : i < t .count) where
-  pub next-account : {b j : ℕ} → b ≡ bagOf (getD (t .links) i blankFields .code) → j ≡ getD (t .links) i blankFields .jitter →
-      set (accountsOf (take i (linksOf t))) i (record { credit = b + j; tick = 0 }) ≡ accountsOf (take (i + 1) (linksOf t))
-  next-account {b} {j} e q =
-      let full : _≡_ {A = AccountRecord} (record { credit = b + j; tick = 0 }) (accountRecord (fullAccount (linkAt (linksOf t) i))) = rw (link-shown t i s below few, e, q) in
-      rw full (one-more (linksOf t) i (omega (arith, count-shown t)) (omega arith))
-
-pub all-accounts : (t : TableRecord) (i : ℕ) → t .count ≤ i → accountsOf (take i (linksOf t)) ≡ fullAccounts t
-all-accounts t i h = rw (take-all i (linksOf t) (omega (arith, count-shown t)))
 
 -- ---- what fresh gives
 pub fresh-refused : (t : TableRecord) {n : ℕ} {b : PortRecord} → n ≡ tableRefusal (viewOf t) → (n ≡ 0 → ⊥) → b ≡ restingWith (recordOf blankTable) (replicate 256 (accountRecord blankAccount)) →

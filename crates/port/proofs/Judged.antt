@@ -13,7 +13,7 @@ use Rattle.model.specs.Machine.{Frame, queueOf, queuedLast, stored, held}
 use Rattle.model.specs.Report.{Account, Port, accountAt, markOf, Judged, judged, admits, admitted, replenished, charged, withAccount, hasRoom, passedIf, storedIf, judge, arrived}
 use Rattle.policing.specs.declared.Checked.{Checked}
 use Rattle.policing.specs.Check.{accountOf, accountRecord, checkedIf, checkOf}
-use Rattle.port.specs.Storing.{verdictIf}
+use Rattle.storing.specs.Storing.{verdictIf}
 
 -- the port that a frame with that verdict leaves
 unfoldable pub storedBy : ℕ → Port → ℕ → Frame → Port

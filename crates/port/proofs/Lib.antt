@@ -3,9 +3,6 @@ pub mod Refused
 pub mod Whole
 pub mod Accepted
 pub mod Stores
-pub mod Judging
-pub mod Marked
-pub mod Settling
 pub mod Room
 pub mod Judged
 pub mod Reported

@@ -23,7 +23,7 @@ use Rattle.scheduler.specs.Contracts.{advanceOf, Advanced}
 use Rattle.scheduler.proofs.Shown.{queue-shown, queues-set, length-shown}
 use Rattle.port.specs.declared.Port.{Port as PortRecord}
 use Rattle.port.specs.View.{tableOf, portOf}
-use Rattle.port.specs.Storing.{Kept}
+use Rattle.storing.specs.Storing.{Kept}
 use Rattle.port.proofs.Stores.{entries-set, map-set}
 use Rattle.port.proofs.Judged.{storedBy}
 

@@ -3,6 +3,5 @@ pub mod Contracts
 pub mod Fitness
 pub mod Refusals
 pub mod Charging
-pub mod Storing
 pub mod Resting
 pub mod Calls

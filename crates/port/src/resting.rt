@@ -1,7 +1,6 @@
 // The fresh port of a table, and the blank one that stands for none.
 use crate::Fresh;
 use crate::Port;
-use crate::reports::wide32;
 use policing::Account;
 use scheduler::Frame;
 use scheduler::Queue;
@@ -9,11 +8,10 @@ use scheduler::Sender;
 use table::Table;
 use table::VirtualLink;
 ghost use mathlib.Core.Path.{_≡_};
-ghost use Prim.Native.Nat.{_≤_};
 ghost use Rattle.model.specs.Table.{blankTable};
 ghost use Rattle.table.specs.View.{recordOf};
 ghost use Rattle.port.specs.Contracts.{freshOf};
-ghost use Rattle.port.specs.Resting.{fullAccounts, restingWith};
+ghost use Rattle.port.specs.Resting.{restingWith};
 
 fn blank_table() -> Table
     ensures { λ r. ⌜ r ≡ recordOf blankTable ⌝ }
@@ -33,27 +31,6 @@ fn blank_table() -> Table
         links: [blank; 256],
         sizes: [0u32; 8],
     }
-}
-
-// Credit B + J for each link; the accounts behind the count are blank.
-fn full_accounts(t: Table) -> [Account; 256]
-    requires { ⌜ t .count ≤ 256 ⌝ }
-    ensures { λ r. ⌜ r ≡ fullAccounts t ⌝ }
-{
-    let n = t.count as usize;
-    let blank = Account { credit: 0, tick: 0 };
-    let mut accounts = [blank; 256];
-    let mut i: usize = 0;
-    while i < n {
-        let link = t.links[i];
-        let full = Account {
-            credit: table::bag(link.code) + wide32(link.jitter),
-            tick: 0,
-        };
-        accounts[i] = full;
-        i += 1;
-    }
-    accounts
 }
 
 // A port with nothing held, at clock 0.
@@ -94,6 +71,6 @@ pub(crate) fn fresh(table: Table) -> Fresh
     }
     Fresh {
         refused: 0,
-        port: resting_with(table, full_accounts(table)),
+        port: resting_with(table, policing::full_accounts(table)),
     }
 }

@@ -10,7 +10,8 @@ use Rattle.table.specs.View.{blankFields}
 use Rattle.table.proofs.Shape.{sized}
 use Rattle.fitness.specs.Conditions.{tickFits, creditFits}
 use Rattle.fitness.proofs.All.{any-false, all-none, all-more, all-stops, all-end}
-use Rattle.fitness.proofs.Entries.{accounts-whole, tick-late, tick-past, credit-high, credit-within, bag-most}
+use Rattle.fitness.proofs.Entries.{accounts-whole, tick-late, tick-past, credit-high, credit-within}
+use Rattle.policing.proofs.Full.{bag-most}
 use Rattle.fitness.proofs.accounts_fit.Statement.{statement}
 use Rattle.fitness.proofs.accounts_fit.Tie as tie
 

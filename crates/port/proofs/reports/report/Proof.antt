@@ -21,10 +21,10 @@ use Rattle.port.proofs.reports.report.Lts as lts
 use Rattle.lookup.proofs.place_of.Reads as place-of-reads
 use Rattle.port.proofs.charging.charge_in.Reads as charge-in-reads
 use Rattle.port.proofs.refusals.tick_of.Reads as tick-of-reads
-use Rattle.port.proofs.reports.admits.Reads as admits-reads
-use Rattle.port.proofs.reports.arrived.Reads as arrived-reads
-use Rattle.port.proofs.reports.settle.Reads as settle-reads
-use Rattle.port.proofs.reports.wide32.Reads as wide32-reads
+use Rattle.storing.proofs.admits.Reads as admits-reads
+use Rattle.storing.proofs.arrived.Reads as arrived-reads
+use Rattle.storing.proofs.settle.Reads as settle-reads
+use Rattle.storing.proofs.wide32.Reads as wide32-reads
 use Rattle.scheduler.proofs.advance.Reads as advance-reads
 use Rattle.table.proofs.bag.Reads as bag-reads
 

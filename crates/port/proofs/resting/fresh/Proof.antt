@@ -7,7 +7,7 @@ use Rattle.port.proofs.resting.fresh.Tie as tie
 use Rattle.port.proofs.resting.fresh.Reads as reads
 use Rattle.port.proofs.resting.fresh.Lts as lts
 use Rattle.port.proofs.resting.blank_table.Reads as blank-table-reads
-use Rattle.port.proofs.resting.full_accounts.Reads as full-accounts-reads
+use Rattle.policing.proofs.full_accounts.Reads as full-accounts-reads
 use Rattle.port.proofs.resting.resting_with.Reads as resting-with-reads
 use Rattle.table.proofs.check.Reads as check-reads
 

@@ -2,16 +2,15 @@ use borrow.Author.Needs.{needs}
 use mathlib.Core.Path.{_≡_, _∙_}
 use Prim.Native.Nat.{_-_, _≤_}
 use native.Mathlib.Omega.{arith}
-use lib.ListN.{getD, take}
-use Rattle.table.specs.View.{blankFields, linksOf}
+use lib.ListN.{take}
+use Rattle.table.specs.View.{linksOf}
 use Rattle.table.proofs.Shape.{sized}
-use Rattle.fitness.proofs.Entries.{bag-most}
-use Rattle.port.proofs.FreshPort.{accountsOf, none-yet, next-account, all-accounts}
-use Rattle.port.proofs.resting.full_accounts.Statement.{statement}
-use Rattle.port.proofs.resting.full_accounts.Tie as tie
-use Rattle.port.proofs.resting.full_accounts.Reads as reads
-use Rattle.port.proofs.resting.full_accounts.Lts as lts
-use Rattle.port.proofs.reports.wide32.Reads as wide32-reads
+use Rattle.policing.proofs.Full.{bag-most, accountsOf, none-yet, next-account, all-accounts}
+use Rattle.policing.proofs.full_accounts.Statement.{statement}
+use Rattle.policing.proofs.full_accounts.Tie as tie
+use Rattle.policing.proofs.full_accounts.Reads as reads
+use Rattle.policing.proofs.full_accounts.Lts as lts
+use Rattle.policing.proofs.wide32.Reads as wide32-reads
 use Rattle.table.proofs.bag.Reads as bag-reads
 
 abbrev Inv-loop : tie.InvT-loop
@@ -20,56 +19,43 @@ Inv-loop t n accounts₀ i₀ accounts i = (accounts ≡ accountsOf (take i (lin
 abbrev μ-loop : tie.MeasureT-loop
 μ-loop t n accounts₀ i₀ accounts i = t .count - i
 
--- src/resting.rt:43:13
 cast-n : tie.Need-cast-n Inv-loop μ-loop
 cast-n c = search needs
 
--- src/resting.rt:47:5
 loop-holds : tie.Need-loop-holds Inv-loop μ-loop
 loop-holds c = (none-yet, omega arith, c .pre)
 
--- src/resting.rt:48:20
 mul-link : tie.Need-mul-link Inv-loop μ-loop
 mul-link c = omega arith
 
--- src/resting.rt:48:20
 element-copy-out-link : tie.Need-element-copy-out-link Inv-loop μ-loop
 element-copy-out-link c = omega arith
 
--- src/resting.rt:50:21
 bag-requires : tie.Need-bag-requires Inv-loop μ-loop
 bag-requires c κs = search needs
 
--- src/resting.rt:50:45
 wide32-requires : tie.Need-wide32-requires Inv-loop μ-loop
 wide32-requires c κs = search needs
 
--- src/resting.rt:50:21
 add-t17 : tie.Need-add-t17 Inv-loop μ-loop
-add-t17 c = omega (arith, bag-most (getD (c .before .before .before .before .before .args .t1 .links) (c .before .before .before .before .loop .i) blankFields .code), c .before .bag .ensures, c .wide32 .ensures .1)
+add-t17 c = let few : c .before .bag .result ≤ 1_600_000 = rw (c .before .bag .ensures) (bag-most _) in omega (arith, c .wide32 .ensures .1)
 
--- src/resting.rt:53:9
 mul-accounts : tie.Need-mul-accounts Inv-loop μ-loop
 mul-accounts c = omega arith
 
--- src/resting.rt:53:9
 array-set-from-accounts : tie.Need-array-set-from-accounts Inv-loop μ-loop
 array-set-from-accounts c = omega arith
 
--- src/resting.rt:54:9
 add-i : tie.Need-add-i Inv-loop μ-loop
 add-i c = omega arith
 
--- src/resting.rt:47:5
 loop-less : tie.Need-loop-less Inv-loop μ-loop
 loop-less c = omega arith
 
--- src/resting.rt:47:5
 loop-again : tie.Need-loop-again Inv-loop μ-loop
 loop-again c = let s = c .before .before .before .before .before in let l = c .before .before .before .before in
     (rw (l .loop .inv .0) (next-account (s .args .t1) (sized (s .args .t1) _ (s .good .0)) (s .pre) (l .loop .i) (omega arith) (c .before .bag .ensures) (c .wide32 .ensures .0)), omega arith, s .pre)
 
--- src/resting.rt:39:1
 returns : tie.Need-returns Inv-loop μ-loop
 returns c = c .before .loop .inv .0 ∙ all-accounts (c .before .before .args .t1) (c .before .loop .i) (omega arith)
 

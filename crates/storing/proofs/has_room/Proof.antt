@@ -1,14 +1,12 @@
-use Rattle.port.proofs.Judging.{too-large, room-left}
-use Rattle.port.proofs.reports.has_room.Statement.{statement}
-use Rattle.port.proofs.reports.has_room.Tie as tie
-use Rattle.port.proofs.reports.has_room.Reads as reads
-use Rattle.port.proofs.reports.has_room.Lts as lts
+use Rattle.storing.proofs.Judging.{too-large, room-left}
+use Rattle.storing.proofs.has_room.Statement.{statement}
+use Rattle.storing.proofs.has_room.Tie as tie
+use Rattle.storing.proofs.has_room.Reads as reads
+use Rattle.storing.proofs.has_room.Lts as lts
 
--- src/reports.rt:76:9
 returns : tie.Need-returns
 returns c = too-large (c .before .args .held) (c .before .args .more) (c .before .args .size) (c .if1 .taken)
 
--- src/reports.rt:72:1
 returns-2 : tie.Need-returns-2
 returns-2 c = room-left (c .before .args .held) (c .before .args .more) (c .before .args .size) (c .if1 .left)
 

@@ -9,7 +9,7 @@ use Rattle.model.specs.Machine.{held}
 use Rattle.scheduler.specs.declared.Frame.{Frame as FrameRecord}
 use Rattle.scheduler.specs.declared.Queue.{Queue}
 use Rattle.scheduler.specs.View.{frameOf, framesOf}
-use Rattle.port.specs.declared.reports.Settled.{Settled}
+use Rattle.storing.specs.declared.Settled.{Settled}
 
 -- "dropped (3): .. held bytes + length exceed the size; stored (0): otherwise"
 unfoldable pub verdictIf : Bool → ℕ

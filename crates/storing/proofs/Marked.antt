@@ -1,12 +1,11 @@
 -- The queue that a frame is stored in.
-use mathlib.Core.Path.{_≡_, refl, sym, ap, _∙_}
-use mathlib.Core.List.{List}
+use mathlib.Core.Path.{_≡_, refl, ap, _∙_}
 use Prim.Native.Nat.{ℕ, max}
 use Rattle.scheduler.specs.declared.Frame.{Frame as FrameRecord}
 use Rattle.scheduler.specs.declared.Queue.{Queue}
 use Rattle.scheduler.specs.View.{framesOf}
 use Rattle.scheduler.specs.Contracts.{Pushed}
-use Rattle.port.specs.Storing.{Stored}
+use Rattle.storing.specs.Storing.{Stored}
 
 -- the mark is no part of the frames
 re-marked : (q : Queue) (m : ℕ) → framesOf (record { count = q .count; mark = m; frames = q .frames }) ≡ framesOf q

@@ -9,7 +9,7 @@ use Rattle.model.specs.Machine.{held}
 use Rattle.scheduler.specs.declared.Frame.{Frame as FrameRecord}
 use Rattle.scheduler.specs.declared.Queue.{Queue}
 use Rattle.scheduler.specs.View.{framesOf}
-use Rattle.port.specs.Storing.{verdictIf, Stored, Roomy, Settles}
+use Rattle.storing.specs.Storing.{verdictIf, Stored, Roomy, Settles}
 
 module _ (q : Queue) (size : ℕ) (f : FrameRecord) {h more s : ℕ} (holds : h ≡ held (framesOf q)) (needs : more ≡ occupied (f .length)) (sized : s ≡ size)
     {room : Bool} (tested : room ≡ leb (h + more) s) where

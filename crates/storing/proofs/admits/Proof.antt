@@ -1,27 +1,23 @@
 use mathlib.Core.Path.{sym, _∙_}
 use native.Mathlib.Omega.{arith}
 use Rattle.table.specs.View.{linkOf}
-use Rattle.port.proofs.Judging.{other-line, too-short, not-too-long}
+use Rattle.storing.proofs.Judging.{other-line, too-short, not-too-long}
 use borrow.Author.Needs.{needs}
-use Rattle.port.proofs.reports.admits.Statement.{statement}
-use Rattle.port.proofs.reports.admits.Tie as tie
-use Rattle.port.proofs.reports.admits.Reads as reads
-use Rattle.port.proofs.reports.admits.Lts as lts
-use Rattle.port.proofs.reports.wide8.Reads as wide8-reads
+use Rattle.storing.proofs.admits.Statement.{statement}
+use Rattle.storing.proofs.admits.Tie as tie
+use Rattle.storing.proofs.admits.Reads as reads
+use Rattle.storing.proofs.admits.Lts as lts
+use Rattle.storing.proofs.wide8.Reads as wide8-reads
 
--- src/reports.rt:62:8
 wide8-requires : tie.Need-wide8-requires
 wide8-requires c κs = search needs
 
--- src/reports.rt:63:9
 returns : tie.Need-returns
 returns c = let s = c .before .before in λ n. other-line (linkOf n (s .args .link)) (s .args .line) (s .args .«length») (λ e. c .if1 .taken (c .before .wide8 .ensures ∙ e))
 
--- src/reports.rt:66:9
 returns-2 : tie.Need-returns-2
 returns-2 c = let s = c .before .before .before .before in λ n. too-short (linkOf n (s .args .link)) (s .args .line) (s .args .«length») (omega arith) (c .if2 .taken)
 
--- src/reports.rt:59:1
 returns-3 : tie.Need-returns-3
 returns-3 c = let s = c .before .before .before .before .before in λ n. not-too-long (linkOf n (s .args .link)) (s .args .line) (s .args .«length») (omega arith) (c .before .if2 .left)
 

@@ -1,0 +1,67 @@
+-- The accounts at rest: blanks, and one account more.
+use mathlib.Core.Path.{_≡_, refl, sym, ap, _∙_}
+use mathlib.Core.List.{List, [], _∷_, _++_, map, map-append}
+use Prim.Native.Nat.{ℕ, zero, suc, _+_, _≤_, _<_}
+use native.Mathlib.Numerals.{add-one}
+use native.Mathlib.Omega.{arith}
+use lib.ListN.{length, getD, set, take, replicate, length-map}
+use lib.Seq.{take-suc, take-all, length-take-le}
+use Rattle.model.specs.Basics.{entries}
+use Rattle.model.specs.Link.{VirtualLink, blankLink, bagOf, linkAt}
+use Rattle.model.specs.Report.{blankAccount, fullAccount}
+use Rattle.table.specs.declared.Table.{Table as TableRecord}
+use Rattle.table.specs.View.{blankFields, linksOf}
+use Rattle.table.proofs.Shape.{Sized, link-shown, count-shown}
+use Rattle.policing.specs.declared.Account.{Account as AccountRecord}
+use Rattle.policing.specs.Check.{accountRecord}
+use Rattle.policing.specs.Full.{fullAccounts}
+
+-- a BAG has 21 bits
+pub bag-most : (code : ℕ) → bagOf code ≤ 1_600_000
+unfolding bagOf
+bag-most zero = omega arith
+bag-most (suc zero) = omega arith
+bag-most (suc (suc zero)) = omega arith
+bag-most (suc (suc (suc zero))) = omega arith
+bag-most (suc (suc (suc (suc zero)))) = omega arith
+bag-most (suc (suc (suc (suc (suc zero))))) = omega arith
+bag-most (suc (suc (suc (suc (suc (suc zero)))))) = omega arith
+bag-most (suc (suc (suc (suc (suc (suc (suc zero))))))) = omega arith
+bag-most (suc (suc (suc (suc (suc (suc (suc (suc n)))))))) = omega arith
+
+-- ---- blanks
+pub entries-blank {ℓ} : {A : Type ℓ} (b : A) (n : ℕ) → entries b n [] ≡ replicate n b
+unfolding entries
+entries-blank b zero = refl
+entries-blank {A = A} b (suc n) = ap (λ (l : List A). b ∷ l) (entries-blank b n)
+
+-- ---- the accounts, one more
+entries-next {ℓ} : {A : Type ℓ} (b : A) (n : ℕ) (l : List A) (x : A) → length l < n → set (entries b n l) (length l) x ≡ entries b n (l ++ (x ∷ []))
+unfolding entries
+entries-next b zero l x h = absurd (omega arith)
+entries-next b (suc n) [] x h = refl
+entries-next {A = A} b (suc n) (y ∷ l) x h = ap (λ (r : List A). y ∷ r) (entries-next b n l x (omega arith))
+
+abbrev pub accountsOf : List VirtualLink → List AccountRecord
+accountsOf links = entries (accountRecord blankAccount) 256 (map accountRecord (map fullAccount links))
+
+pub none-yet : replicate 256 (accountRecord blankAccount) ≡ accountsOf []
+none-yet = sym (entries-blank (accountRecord blankAccount) 256)
+
+pub one-more : (links : List VirtualLink) (i : ℕ) → i < length links → i < 256 → set (accountsOf (take i links)) i (accountRecord (fullAccount (linkAt links i))) ≡ accountsOf (take (i + 1) links)
+one-more links i h k =
+    let front = map accountRecord (map fullAccount (take i links)) in
+    let n : length front ≡ i = length-map (map fullAccount (take i links)) accountRecord ∙ length-map (take i links) fullAccount ∙ length-take-le i links (omega arith) in
+    let same : set (accountsOf (take i links)) (length front) (accountRecord (fullAccount (linkAt links i))) ≡ entries (accountRecord blankAccount) 256 (front ++ (accountRecord (fullAccount (linkAt links i)) ∷ [])) =
+    entries-next (accountRecord blankAccount) 256 front (accountRecord (fullAccount (linkAt links i))) (omega arith) in
+    (rw n at same) ∙ rw (add-one, take-suc links i blankLink h, map-append fullAccount (take i links) (linkAt links i ∷ []), map-append accountRecord (map fullAccount (take i links)) (fullAccount (linkAt links i) ∷ []))
+
+module _ (t : TableRecord) (s : Sized t) (few : t .count ≤ 256) (i : ℕ) (below : i < t .count) where
+  pub next-account : {b j : ℕ} → b ≡ bagOf (getD (t .links) i blankFields .code) → j ≡ getD (t .links) i blankFields .jitter →
+      set (accountsOf (take i (linksOf t))) i (record { credit = b + j; tick = 0 }) ≡ accountsOf (take (i + 1) (linksOf t))
+  next-account {b} {j} e q =
+      let full : _≡_ {A = AccountRecord} (record { credit = b + j; tick = 0 }) (accountRecord (fullAccount (linkAt (linksOf t) i))) = rw (link-shown t i s below few, e, q) in
+      rw full (one-more (linksOf t) i (omega (arith, count-shown t)) (omega arith))
+
+pub all-accounts : (t : TableRecord) (i : ℕ) → t .count ≤ i → accountsOf (take i (linksOf t)) ≡ fullAccounts t
+all-accounts t i h = rw (take-all i (linksOf t) (omega (arith, count-shown t)))
