@@ -9,6 +9,7 @@ use lib.Seq.{take-suc, take-all, length-take-le}
 use Rattle.model.specs.Basics.{entries}
 use Rattle.model.specs.Link.{VirtualLink, blankLink, bagOf, linkAt}
 use Rattle.model.specs.Report.{blankAccount, fullAccount}
+use Rattle.model.proofs.Entries.{entries-blank, entries-next}
 use Rattle.table.specs.declared.Table.{Table as TableRecord}
 use Rattle.table.specs.View.{blankFields, linksOf}
 use Rattle.table.proofs.Shape.{Sized, link-shown, count-shown}
@@ -29,19 +30,7 @@ bag-most (suc (suc (suc (suc (suc (suc zero)))))) = omega arith
 bag-most (suc (suc (suc (suc (suc (suc (suc zero))))))) = omega arith
 bag-most (suc (suc (suc (suc (suc (suc (suc (suc n)))))))) = omega arith
 
--- ---- blanks
-pub entries-blank {ℓ} : {A : Type ℓ} (b : A) (n : ℕ) → entries b n [] ≡ replicate n b
-unfolding entries
-entries-blank b zero = refl
-entries-blank {A = A} b (suc n) = ap (λ (l : List A). b ∷ l) (entries-blank b n)
-
 -- ---- the accounts, one more
-entries-next {ℓ} : {A : Type ℓ} (b : A) (n : ℕ) (l : List A) (x : A) → length l < n → set (entries b n l) (length l) x ≡ entries b n (l ++ (x ∷ []))
-unfolding entries
-entries-next b zero l x h = absurd (omega arith)
-entries-next b (suc n) [] x h = refl
-entries-next {A = A} b (suc n) (y ∷ l) x h = ap (λ (r : List A). y ∷ r) (entries-next b n l x (omega arith))
-
 abbrev pub accountsOf : List VirtualLink → List AccountRecord
 accountsOf links = entries (accountRecord blankAccount) 256 (map accountRecord (map fullAccount links))
 

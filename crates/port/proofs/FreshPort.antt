@@ -13,7 +13,8 @@ use Rattle.table.specs.View.{linkOf, fieldsOf, blankFields, linksOf, viewOf, re
 use Rattle.table.proofs.Shape.{count-shown}
 use Rattle.policing.specs.Check.{accountOf, accountRecord}
 use Rattle.policing.specs.Full.{fullAccounts}
-use Rattle.policing.proofs.Full.{entries-blank, none-yet}
+use Rattle.policing.proofs.Full.{none-yet}
+use Rattle.model.proofs.Entries.{entries-blank}
 use Rattle.model.specs.Machine.{Frame}
 use Rattle.scheduler.specs.View.{framesOf, queuesOf, marksOf}
 use Rattle.port.specs.declared.Port.{Port as PortRecord}
@@ -22,11 +23,6 @@ use Rattle.port.specs.View.{portOf, emptyQueue, restingPort, freshPort, 
 use Rattle.port.specs.Contracts.{freshOr, freshOf}
 use Rattle.port.specs.Resting.{restingWith}
 use Rattle.lookup.proofs.Tables.{counts-pass}
-
--- ---- the blank table
-pub blank-made : _≡_ {A = TableRecord} (record { lines = 0; count = 0; numbers = replicate 256 0; links = replicate 256 blankFields; sizes = replicate 8 0 }) (recordOf blankTable)
-unfolding recordOf
-blank-made = rw (entries-blank {A = ℕ} 0 256, entries-blank blankFields 256)
 
 -- ---- what fresh gives
 pub fresh-refused : (t : TableRecord) {n : ℕ} {b : PortRecord} → n ≡ tableRefusal (viewOf t) → (n ≡ 0 → ⊥) → b ≡ restingWith (recordOf blankTable) (replicate 256 (accountRecord blankAccount)) →

@@ -6,32 +6,9 @@ use scheduler::Frame;
 use scheduler::Queue;
 use scheduler::Sender;
 use table::Table;
-use table::VirtualLink;
 ghost use mathlib.Core.Path.{_≡_};
-ghost use Rattle.model.specs.Table.{blankTable};
-ghost use Rattle.table.specs.View.{recordOf};
 ghost use Rattle.port.specs.Contracts.{freshOf};
 ghost use Rattle.port.specs.Resting.{restingWith};
-
-fn blank_table() -> Table
-    ensures { λ r. ⌜ r ≡ recordOf blankTable ⌝ }
-{
-    let blank = VirtualLink {
-        line: 0,
-        priority: 0,
-        code: 0,
-        least: 0,
-        greatest: 0,
-        jitter: 0,
-    };
-    Table {
-        lines: 0,
-        count: 0,
-        numbers: [0u16; 256],
-        links: [blank; 256],
-        sizes: [0u32; 8],
-    }
-}
 
 // A port with nothing held, at clock 0.
 fn resting_with(table: Table, accounts: [Account; 256]) -> Port
@@ -66,7 +43,7 @@ pub(crate) fn fresh(table: Table) -> Fresh
         let blank = Account { credit: 0, tick: 0 };
         return Fresh {
             refused,
-            port: resting_with(blank_table(), [blank; 256]),
+            port: resting_with(table::blank(), [blank; 256]),
         };
     }
     Fresh {

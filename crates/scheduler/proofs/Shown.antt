@@ -7,6 +7,7 @@ use native.Mathlib.Omega.{arith}
 use lib.ListN.{length, getD, take, set, length-set, length-map, List·getD-map}
 use lib.Seq.{take-suc-set, map-set-same}
 use Rattle.model.specs.Basics.{entries}
+use Rattle.model.proofs.Entries.{length-entries, getD-entries}
 use Rattle.model.specs.Machine.{Frame, blankFrame, queueOf, headOf, withoutHead}
 use Rattle.scheduler.specs.declared.Frame.{Frame as FrameRecord}
 use Rattle.scheduler.specs.declared.Queue.{Queue}
@@ -15,23 +16,11 @@ use Rattle.scheduler.specs.Contracts.{Pushed}
 use Rattle.scheduler.specs.Sending.{HeadGone}
 
 -- ---- what stands before a count
-length-entries {ℓ} : {A : Type ℓ} (b : A) (n : ℕ) (l : List A) → length (entries b n l) ≡ n
-unfolding entries
-length-entries b zero l = refl
-length-entries b (suc n) [] = ap suc (length-entries b n [])
-length-entries b (suc n) (x ∷ l) = ap suc (length-entries b n l)
-
 pub entries-take {ℓ} : {A : Type ℓ} (b : A) (n : ℕ) (l : List A) → n ≤ length l → entries b n l ≡ take n l
 unfolding entries
 entries-take b zero l h = refl
 entries-take b (suc n) [] h = absurd (omega arith)
 entries-take {A = A} b (suc n) (x ∷ l) h = ap (λ (r : List A). x ∷ r) (entries-take b n l (omega arith))
-
-entries-head {ℓ} : {A : Type ℓ} (b : A) (n : ℕ) (l : List A) → 0 < n → getD (entries b n l) 0 b ≡ getD l 0 b
-unfolding entries
-entries-head b zero l h = absurd (omega arith)
-entries-head b (suc n) [] h = refl
-entries-head b (suc n) (x ∷ l) h = refl
 
 -- ---- a queue
 pub count-shown : (q : Queue) → length (framesOf q) ≡ q .count
@@ -42,7 +31,7 @@ pub oldest-shown : (q : Queue) → 0 < q .count → getD (framesOf q) 0 blankFra
 unfolding framesOf
 oldest-shown q h =
     List·getD-map frameOf (entries blankEntry (q .count) (q .frames)) 0 blankEntry
-    ∙ ap frameOf (entries-head blankEntry (q .count) (q .frames) h)
+    ∙ ap frameOf (getD-entries blankEntry (q .count) (q .frames) 0 h)
 
 pub pushed-shown : (q : Queue) (f : FrameRecord) → q .count < length (q .frames) →
     Pushed q f (record { count = q .count + 1; mark = q .mark; frames = set (q .frames) (q .count) f })

@@ -12,6 +12,7 @@ use denote.Struct.Declared.{row}
 use denote.Struct.Field.{u16-field, u32-field}
 use Rattle.model.specs.Basics.{entries}
 use Rattle.model.specs.Link.{VirtualLink, blankLink}
+use Rattle.model.proofs.Entries.{length-entries, getD-entries}
 use Rattle.table.specs.declared.VirtualLink.{VirtualLink as LinkFields}
 use Rattle.table.specs.declared.Table.{Table as TableRecord}
 use Rattle.table.specs.View.{linkOf, fieldsOf, blankFields, joined, linksOf, viewOf}
@@ -32,26 +33,6 @@ sized t vs p =
     }
 
 -- ---- the view
-length-entries {ℓ} : {A : Type ℓ} (b : A) (n : ℕ) (l : List A) → length (entries b n l) ≡ n
-unfolding entries
-length-entries b zero l = refl
-length-entries b (suc n) [] = ap suc (length-entries b n [])
-length-entries b (suc n) (x ∷ l) = ap suc (length-entries b n l)
-
-getD-blank {ℓ} : {A : Type ℓ} (b : A) (n i : ℕ) → getD (entries b n []) i b ≡ b
-unfolding entries
-getD-blank b zero i = refl
-getD-blank b (suc n) zero = refl
-getD-blank b (suc n) (suc i) = getD-blank b n i
-
-getD-entries {ℓ} : {A : Type ℓ} (b : A) (n : ℕ) (l : List A) (i : ℕ) → i < n → getD (entries b n l) i b ≡ getD l i b
-unfolding entries
-getD-entries b zero l i h = absurd (omega arith)
-getD-entries b (suc n) [] zero h = refl
-getD-entries b (suc n) [] (suc i) h = getD-blank b n i
-getD-entries b (suc n) (x ∷ l) zero h = refl
-getD-entries b (suc n) (x ∷ l) (suc i) h = getD-entries b n l i (omega arith)
-
 getD-joined : (numbers : List ℕ) (links : List LinkFields) (i : ℕ) → i < length numbers → i < length links →
     getD (joined numbers links) i blankLink ≡ linkOf (getD numbers i 0) (getD links i blankFields)
 unfolding joined

@@ -7,6 +7,7 @@ use lib.ListN.{length, replicate}
 use Rattle.model.specs.Basics.{entries}
 use Rattle.model.specs.Link.{VirtualLink, blankLink}
 use Rattle.model.specs.Table.{Table, blankTable}
+use Rattle.model.proofs.Entries.{entries-blank}
 use Rattle.table.specs.declared.VirtualLink.{VirtualLink as LinkFields}
 use Rattle.table.specs.declared.Table.{Table as TableRecord}
 use Rattle.table.specs.View.{fieldsOf, blankFields, joined, linksOf, viewOf, recordOf}
@@ -39,12 +40,7 @@ pub blank-shown : viewOf (recordOf blankTable) ≡ blankTable
 blank-shown = record-shown blankTable (omega arith)
 
 -- ---- no table
-pub entries-none {ℓ} : {A : Type ℓ} (b : A) (n : ℕ) → replicate n b ≡ entries b n []
-unfolding entries
-entries-none b zero = refl
-entries-none b (suc n) = ap (λ l. b ∷ l) (entries-none b n)
-
 pub blank-made : (blank : LinkFields) → blank ≡ blankFields →
     _≡_ {A = TableRecord} (record { lines = 0; count = 0; numbers = replicate 256 0; links = replicate 256 blank; sizes = replicate 8 0 }) (recordOf blankTable)
 unfolding recordOf
-blank-made blank e = rw (e, entries-none {A = ℕ} 0 256, entries-none blankFields 256)
+blank-made blank e = rw (e, entries-blank {A = ℕ} 0 256, entries-blank blankFields 256)

@@ -1,15 +1,16 @@
 -- Reading a file record by record.
 use mathlib.Core.Path.{_≡_, refl, sym, ap, _∙_}
 use mathlib.Core.Option.{Option, none, some}
-use mathlib.Core.List.{List, [], _∷_, _++_, map}
+use mathlib.Core.List.{List, [], _∷_, _++_, map, map-append}
 use Prim.Native.Nat.{ℕ, zero, suc, _+_, _-_, _≤_, _<_}
 use native.Mathlib.Omega.{arith}
 use borrow.Author.Tests.{not-false}
-use lib.ListN.{length, getD, set, drop, replicate, length-append}
+use lib.ListN.{length, getD, set, drop, replicate, length-append, length-map}
 use Rattle.model.specs.Basics.{entries, firstMet}
 use Rattle.model.specs.Link.{VirtualLink}
 use Rattle.model.specs.Table.{blankTable, countsInRange, countChecks}
 use Rattle.model.specs.TableFile.{numberAt, headerChecks, linkRead, sizesRead, Reading, stopOr, readSizes, readLinks, readTable, countRecordChecks, linkRecordChecks, sizesRecordChecks}
+use Rattle.model.proofs.Entries.{entries-blank, entries-next}
 use Rattle.model.proofs.Checks.{NoneMet, none-met, none-back}
 use Rattle.model.proofs.TableFacts.{counts-fit}
 use Rattle.table.specs.declared.VirtualLink.{VirtualLink as LinkFields}
@@ -21,7 +22,6 @@ use Rattle.table.specs.View.{linkOf, fieldsOf, blankFields, recordOf}
 use Rattle.record_reader.specs.Records.{Said, saying, linkValues, said, saidOr, countsDue, linkDue, sizesDue, dueAt}
 use Rattle.table_file.specs.Answers.{readingOf}
 use Rattle.table.proofs.Refusals.{previous-more}
-use Rattle.table.proofs.Shown.{entries-none}
 use Rattle.record_reader.proofs.Due.{due-counts, due-link, due-sizes}
 
 -- ---- what an answer says of the checks
@@ -59,10 +59,9 @@ stopped r n m next s due a e q z p f =
 
 -- ---- entries that are filled one by one
 entries-more : {A B : Type 0} (b : B) (f : A → B) (n : ℕ) (l : List A) (v : A) → length l < n → set (entries b n (map f l)) (length l) (f v) ≡ entries b n (map f (l ++ (v ∷ [])))
-unfolding entries
-entries-more b f zero l v h = absurd (omega arith)
-entries-more b f (suc n) [] v h = refl
-entries-more b f (suc n) (x ∷ l) v h = ap (λ r. f x ∷ r) (entries-more b f n l v (omega arith))
+entries-more b f n l v h =
+    let next = entries-next b n (map f l) (f v) (omega (arith, length-map l f)) in
+    (rw (length-map l f) at next) ∙ rw (map-append f l (v ∷ []))
 
 -- ---- the reader on its way
 pub record SoFar (file : List ℕ) (lines count : ℕ) (numbers : List ℕ) (links : List LinkFields) (previous : ℕ) (rest : List ℕ) (read : ℕ) : Type 0 where
@@ -139,8 +138,8 @@ module _ (file : List ℕ) where
           found = [];
           before = refl;
           within = omega arith;
-          numbered = entries-none 0 256;
-          filled = ap (replicate 256) f ∙ entries-none blankFields 256;
+          numbered = sym (entries-blank 0 256);
+          filled = ap (replicate 256) f ∙ sym (entries-blank blankFields 256);
           left = start-left;
         }
 

@@ -6,7 +6,7 @@ use Rattle.port.proofs.resting.fresh.Statement.{statement}
 use Rattle.port.proofs.resting.fresh.Tie as tie
 use Rattle.port.proofs.resting.fresh.Reads as reads
 use Rattle.port.proofs.resting.fresh.Lts as lts
-use Rattle.port.proofs.resting.blank_table.Reads as blank-table-reads
+use Rattle.table.proofs.blank.Reads as blank-reads
 use Rattle.policing.proofs.full_accounts.Reads as full-accounts-reads
 use Rattle.port.proofs.resting.resting_with.Reads as resting-with-reads
 use Rattle.table.proofs.check.Reads as check-reads
@@ -16,8 +16,8 @@ check-requires : tie.Need-check-requires
 check-requires c κs = search needs
 
 -- src/resting.rt:92:32
-blank-table-requires : tie.Need-blank-table-requires
-blank-table-requires c κs = search needs
+blank-requires : tie.Need-blank-requires
+blank-requires c κs = search needs
 
 -- src/resting.rt:92:19
 resting-with-requires : tie.Need-resting-with-requires
@@ -25,7 +25,7 @@ resting-with-requires c κs = search needs
 
 -- src/resting.rt:90:9
 returns : tie.Need-returns
-returns c = fresh-refused (c .before .before .before .before .args .table) (c .before .before .before .check .ensures) (c .before .before .if1 .taken) (c .resting-with .ensures ∙ rw (c .before .blank-table .ensures))
+returns c = fresh-refused (c .before .before .before .before .args .table) (c .before .before .before .check .ensures) (c .before .before .if1 .taken) (c .resting-with .ensures ∙ rw (c .before .blank .ensures))
 
 -- src/resting.rt:97:35
 full-accounts-requires : tie.Need-full-accounts-requires
@@ -44,7 +44,7 @@ fresh-spec =
     tie.close
     (tie.spec
     check-requires
-    blank-table-requires
+    blank-requires
     resting-with-requires
     returns
     full-accounts-requires

@@ -1,0 +1,39 @@
+-- The first n entries of a list, blank where it has fewer.
+use mathlib.Core.Path.{_≡_, refl, ap}
+use mathlib.Core.List.{List, [], _∷_, _++_}
+use Prim.Native.Nat.{ℕ, zero, suc, _<_}
+use native.Mathlib.Omega.{arith}
+use lib.ListN.{length, getD, set, replicate}
+use Rattle.model.specs.Basics.{entries}
+
+pub length-entries {ℓ} : {A : Type ℓ} (b : A) (n : ℕ) (l : List A) → length (entries b n l) ≡ n
+unfolding entries
+length-entries b zero l = refl
+length-entries b (suc n) [] = ap suc (length-entries b n [])
+length-entries b (suc n) (x ∷ l) = ap suc (length-entries b n l)
+
+pub entries-blank {ℓ} : {A : Type ℓ} (b : A) (n : ℕ) → entries b n [] ≡ replicate n b
+unfolding entries
+entries-blank b zero = refl
+entries-blank {A = A} b (suc n) = ap (λ (l : List A). b ∷ l) (entries-blank b n)
+
+getD-blank {ℓ} : {A : Type ℓ} (b : A) (n i : ℕ) → getD (entries b n []) i b ≡ b
+unfolding entries
+getD-blank b zero i = refl
+getD-blank b (suc n) zero = refl
+getD-blank b (suc n) (suc i) = getD-blank b n i
+
+pub getD-entries {ℓ} : {A : Type ℓ} (b : A) (n : ℕ) (l : List A) (i : ℕ) → i < n → getD (entries b n l) i b ≡ getD l i b
+unfolding entries
+getD-entries b zero l i h = absurd (omega arith)
+getD-entries b (suc n) [] zero h = refl
+getD-entries b (suc n) [] (suc i) h = getD-blank b n i
+getD-entries b (suc n) (x ∷ l) zero h = refl
+getD-entries b (suc n) (x ∷ l) (suc i) h = getD-entries b n l i (omega arith)
+
+-- one entry more
+pub entries-next {ℓ} : {A : Type ℓ} (b : A) (n : ℕ) (l : List A) (x : A) → length l < n → set (entries b n l) (length l) x ≡ entries b n (l ++ (x ∷ []))
+unfolding entries
+entries-next b zero l x h = absurd (omega arith)
+entries-next b (suc n) [] x h = refl
+entries-next {A = A} b (suc n) (y ∷ l) x h = ap (λ (r : List A). y ∷ r) (entries-next b n l x (omega arith))
