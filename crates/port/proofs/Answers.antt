@@ -49,7 +49,7 @@ use Rattle.port.proofs.Whole.{Whole}
 use Rattle.port.proofs.Accepted.{accepted}
 use Rattle.port.proofs.Accepted.{arrives as arrives-at-line}
 use Rattle.port.proofs.Room.{fewer-with-room}
-use Rattle.port.proofs.Stores.{getD-entries}
+use Rattle.model.proofs.Entries.{getD-entries}
 use Rattle.port.proofs.Judged.{storedBy, judged-nowhere, judged-filtered, judged-policed, judged-passed}
 use Rattle.port.proofs.Reported.{made, there, waited, ticked, charged, settled}
 

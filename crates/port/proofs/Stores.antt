@@ -17,17 +17,3 @@ pub map-set {ℓ κ} : {A : Type ℓ} {B : Type κ} (f : A → B) (l : List A) (
 map-set f [] i x = refl
 map-set f (y ∷ l) zero x = refl
 map-set {B = B} f (y ∷ l) (suc i) x = ap (λ (r : List B). f y ∷ r) (map-set f l i x)
-
-getD-blank {ℓ} : {A : Type ℓ} (b : A) (n i : ℕ) → getD (entries b n []) i b ≡ b
-unfolding entries
-getD-blank b zero i = refl
-getD-blank b (suc n) zero = refl
-getD-blank b (suc n) (suc i) = getD-blank b n i
-
-pub getD-entries {ℓ} : {A : Type ℓ} (b : A) (n : ℕ) (l : List A) (i : ℕ) → i < n → getD (entries b n l) i b ≡ getD l i b
-unfolding entries
-getD-entries b zero l i h = absurd (omega arith)
-getD-entries b (suc n) [] zero h = refl
-getD-entries b (suc n) [] (suc i) h = getD-blank b n i
-getD-entries b (suc n) (x ∷ l) zero h = refl
-getD-entries b (suc n) (x ∷ l) (suc i) h = getD-entries b n l i (omega arith)
