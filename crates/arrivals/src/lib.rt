@@ -1,8 +1,14 @@
 // Internal to the product: arrival curves, the most that links of some priorities put on the lines in a window of w ticks.
+use numbers::excess;
+use numbers::larger;
+use numbers::smaller;
+use numbers::u16_as_u64;
+use numbers::u16_as_usize;
+use numbers::u32_as_u64;
 use table::Table;
 use table::VirtualLink;
 ghost use mathlib.Core.Path.{_≡_};
-ghost use Prim.Native.Nat.{ℕ, _-_, _*_, _≤_, _<_, min, max};
+ghost use Prim.Native.Nat.{ℕ, _*_, _≤_, _<_};
 ghost use lib.ListN.{getD};
 ghost use Rattle.model.specs.Link.{greatestOver};
 ghost use Rattle.model.specs.Arrival.{frameCurve, arrivalCurve};
@@ -16,49 +22,12 @@ pub struct Loads {
     pub tops: [u64; 24],
 }
 
-fn wide16(x: u16) -> u64
-    ensures { λ r. ⌜ (r ≡ x) × (r ≤ 65535) ⌝ }
-{
-    x as u64
-}
-
-pub fn wide32(x: u32) -> u64
-    ensures { λ r. ⌜ r ≡ x ⌝ }
-{
-    x as u64
-}
-
-pub fn index(x: u16) -> usize
-    ensures { λ r. ⌜ r ≡ x ⌝ }
-{
-    x as usize
-}
-
-pub fn smaller(a: u64, b: u64) -> u64
-    ensures { λ r. ⌜ r ≡ min a b ⌝ }
-{
-    if a < b { a } else { b }
-}
-
-fn larger(a: u64, b: u64) -> u64
-    ensures { λ r. ⌜ r ≡ max a b ⌝ }
-{
-    if a < b { b } else { a }
-}
-
-// How far a passes b.
-pub fn excess(a: u64, b: u64) -> u64
-    ensures { λ r. ⌜ r ≡ a - b ⌝ }
-{
-    if a < b { 0 } else { a - b }
-}
-
 // N_v(w). The BAG is 12,500 ticks times 2 to the power of the code: division by a constant and a shift are faster.
 pub fn frames(l: VirtualLink, w: u64) -> u64
     requires { ⌜ FitLink l × (w ≤ 65536) ⌝ }
     ensures { λ r. ⌜ ((n : ℕ) → r ≡ frameCurve (linkOf n l) w) × (r ≤ 16) ⌝ }
 {
-    1 + ((w + wide32(l.jitter)) / 12500 >> l.code)
+    1 + ((w + u32_as_u64(l.jitter)) / 12500 >> l.code)
 }
 
 // Whether a link is of priority low to high.
@@ -76,13 +45,13 @@ pub fn longest(t: Table, low: u8, high: u8) -> u64
     requires { ⌜ Fit t ⌝ }
     ensures { λ r. ⌜ (r ≡ greatestOver (between low high) (λ v. v .greatest) (linksOf t)) × (r ≤ 1538) ⌝ }
 {
-    let count = index(t.count);
+    let count = u16_as_usize(t.count);
     let mut top: u64 = 0;
     let mut i: usize = 0;
     while i < count {
         let l = t.links[i];
         if member(l, low, high) {
-            top = larger(top, wide16(l.greatest));
+            top = larger(top, u16_as_u64(l.greatest));
         }
         i += 1;
     }
@@ -95,7 +64,7 @@ pub fn loads_of(t: Table, w: u64, low: u8, high: u8, cut: u64) -> Loads
     requires { ⌜ Fit t × (w ≤ 65536) ⌝ }
     ensures { λ r. ⌜ Loaded (less cut) (between low high) (linksOf t) w r ⌝ }
 {
-    let count = index(t.count);
+    let count = u16_as_usize(t.count);
     let mut sums = [0u64; 24];
     let mut tops = [0u64; 24];
     let mut i: usize = 0;
@@ -103,7 +72,7 @@ pub fn loads_of(t: Table, w: u64, low: u8, high: u8, cut: u64) -> Loads
         let l = t.links[i];
         if member(l, low, high) {
             let k = l.line as usize;
-            let x = excess(wide16(l.greatest), cut);
+            let x = excess(u16_as_u64(l.greatest), cut);
             sums[k] = sums[k] + x * frames(l, w);
             tops[k] = larger(tops[k], x);
         }
@@ -132,5 +101,5 @@ pub fn arrivals(t: Table, low: u8, high: u8, w: u64) -> u64
     ensures { λ r. ⌜ (r ≡ arrivalCurve (less 0) (between low high) (t .lines) (linksOf t) w) × (r ≤ 67074 * 24) ⌝ }
 {
     let l = loads_of(t, w, low, high, 0);
-    total(l, index(t.lines), w)
+    total(l, u16_as_usize(t.lines), w)
 }

@@ -38,7 +38,7 @@ fn link_steady(l: VirtualLink, high: u8, w: u64) -> u64
         return 65535;
     }
     let n = arrivals::frames(l, w);
-    n * table::bag(l.code) - arrivals::wide32(l.jitter) - 1
+    n * table::bag(l.code) - numbers::u32_as_u64(l.jitter) - 1
 }
 
 // A window up to which no link of priority 0 to high has more frames than in w.
@@ -46,12 +46,12 @@ fn steady(t: Table, w: u64, high: u8) -> u64
     requires { ⌜ Fit t × (w < 65536) ⌝ }
     ensures { λ r. ⌜ (w ≤ r) × Steady (between 0 high) (linksOf t) (t .count) w r ⌝ }
 {
-    let count = arrivals::index(t.count);
+    let count = numbers::u16_as_usize(t.count);
     let mut last: u64 = 65535;
     let mut i: usize = 0;
     while i < count {
         let l = t.links[i];
-        last = arrivals::smaller(last, link_steady(l, high, w));
+        last = numbers::smaller(last, link_steady(l, high, w));
         i += 1;
     }
     last
@@ -64,8 +64,8 @@ fn stretch_at(t: Table, p: u8, blocking: u64, longest: u64, w: u64, last: u64) -
 {
     let own = arrivals::loads_of(t, w, p, p, 0);
     let up = arrivals::loads_of(t, w, 0, p, 0);
-    let until = arrivals::smaller(steady(t, w, p), last);
-    let lines = arrivals::index(t.lines);
+    let until = numbers::smaller(steady(t, w, p), last);
+    let lines = numbers::u16_as_usize(t.lines);
     Stretch {
         own,
         up,
@@ -86,9 +86,9 @@ fn backlog_by(s: Stretch, w: u64, sent: u64) -> u64
     let up = s.up;
     let a = arrivals::total(own, s.lines, w);
     let u = arrivals::total(up, s.lines, w);
-    arrivals::smaller(
+    numbers::smaller(
         a,
-        arrivals::excess(u, arrivals::excess(sent, s.blocking)) + s.longest - 1,
+        numbers::excess(u, numbers::excess(sent, s.blocking)) + s.longest - 1,
     )
 }
 

@@ -1,15 +1,9 @@
 // Calls that bench/ times: on byte slices and numbers.
+use numbers::u32_as_u64;
 ghost use mathlib.Core.Path.{_≡_};
 ghost use Prim.Native.Nat.{_≤_, _*_};
-ghost use lib.ListN.{length, take};
 ghost use Rattle.model.specs.TableFile.{readTable};
 ghost use Rattle.bench_calls.specs.Sums.{sum, sizingSum};
-
-fn wide(x: u32) -> u64
-    ensures { λ r. ⌜ (r ≡ x) × (r ≤ 4294967295) ⌝ }
-{
-    x as u64
-}
 
 fn sum_of(a: [u32; 8]) -> u64
     ensures { λ r. ⌜ (r ≡ sum a) × (r ≤ 4294967295 * 8) ⌝ }
@@ -17,7 +11,7 @@ fn sum_of(a: [u32; 8]) -> u64
     let mut total: u64 = 0;
     let mut i: usize = 0;
     while i < 8 {
-        total += wide(a[i]);
+        total += u32_as_u64(a[i]);
         i += 1;
     }
     total

@@ -13,7 +13,7 @@ pub(crate) fn blocking_of(t: Table, p: u8) -> u64
     ensures { λ r. ⌜ (r ≡ blocking (viewOf t) p) × (r ≤ 1538) ⌝ }
 {
     let beyond = p + 1;
-    arrivals::excess(arrivals::longest(t, beyond, 7), 1)
+    numbers::excess(arrivals::longest(t, beyond, 7), 1)
 }
 
 // The hold, or 0 if there is none, by climbing: b + A_up(w - 1) never passes the smallest hold.

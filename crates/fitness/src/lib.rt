@@ -1,5 +1,6 @@
 // Internal to the product: the fitness of single parts of a port record: a frame, the frame being sent, lines, accounts.
-use lookup::wide;
+use numbers::u16_as_u64;
+use numbers::u32_as_u64;
 use policing::Account;
 use scheduler::Frame;
 use scheduler::Queue;
@@ -15,12 +16,6 @@ ghost use Rattle.model.specs.Report.{senderFit};
 ghost use Rattle.table.specs.View.{linkOf};
 ghost use Rattle.scheduler.specs.View.{blankQueue, frameOf, queuesOf};
 ghost use Rattle.fitness.specs.Conditions.{frameFits, linesFit, ticksFit, creditsFit};
-
-pub fn wide32(x: u32) -> u64
-    ensures { λ r. ⌜ (r ≡ x) × (r ≤ 4294967295) ⌝ }
-{
-    x as u64
-}
 
 // A frame has the queue's priority and a length within its link's limits.
 // It arrived no earlier than the frame before it, and by the clock.
@@ -56,7 +51,7 @@ pub fn head_fits(q: Queue, start: u64, clock: u64) -> bool
     if clock <= start {
         return false;
     }
-    clock - start < wide(f.length)
+    clock - start < u16_as_u64(f.length)
 }
 
 // The tick of a line is at most the clock.
@@ -87,7 +82,7 @@ pub fn accounts_fit(accounts: [Account; 256], t: Table, clock: u64) -> bool
             return false;
         }
         let link = t.links[i];
-        if table::bag(link.code) + wide32(link.jitter) < accounts[i].credit {
+        if table::bag(link.code) + u32_as_u64(link.jitter) < accounts[i].credit {
             return false;
         }
         i += 1;

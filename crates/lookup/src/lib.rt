@@ -1,17 +1,11 @@
 // Internal to the product: looking the number of a virtual link up.
+use numbers::u16_as_u64;
 ghost use Prim.Native.Nat.{_≤_, _<_};
-ghost use mathlib.Core.Path.{_≡_};
 ghost use Rattle.lookup.specs.Places.{Rising, Found};
 
 pub enum Place {
     At(usize),
     Nowhere,
-}
-
-pub fn wide(x: u16) -> u64
-    ensures { λ r. ⌜ (r ≡ x) × (r ≤ 65535) ⌝ }
-{
-    x as u64
 }
 
 // The place of a number among the first count, which rise. It is one of the span places from low on, if there is one.
@@ -23,12 +17,12 @@ pub fn place_of(numbers: &[u16; 256], count: u16, number: u64) -> Place
     let mut span = count as usize;
     while 1 < span {
         let half = span / 2;
-        if wide(numbers[low + half]) <= number {
+        if u16_as_u64(numbers[low + half]) <= number {
             low += half;
         }
         span -= half;
     }
-    if wide(numbers[low]) == number {
+    if u16_as_u64(numbers[low]) == number {
         return Place::At(low);
     }
     Place::Nowhere
@@ -45,5 +39,5 @@ pub fn place_near(numbers: &[u16; 256], count: u16, number: u16, guess: u8) -> P
             return Place::At(i);
         }
     }
-    place_of(numbers, count, wide(number))
+    place_of(numbers, count, u16_as_u64(number))
 }

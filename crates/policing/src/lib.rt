@@ -1,7 +1,9 @@
 // Internal to the product: the account of a virtual link (a token bucket), the police check, and the accounts at rest.
+use numbers::excess;
+use numbers::u32_as_u64;
 use table::Table;
 ghost use mathlib.Core.Path.{_≡_};
-ghost use Prim.Native.Nat.{_+_, _-_, _≤_, _<_, _^_, min};
+ghost use Prim.Native.Nat.{_+_, _-_, _≤_, _<_, min};
 ghost use Rattle.model.specs.Link.{VirtualLink, bag as bagOfLink};
 ghost use Rattle.policing.specs.Check.{checkOf};
 ghost use Rattle.policing.specs.Full.{fullAccounts};
@@ -16,16 +18,6 @@ pub struct Account {
 pub struct Checked {
     pub passed: bool,
     pub account: Account,
-}
-
-// x − y, or 0 if y is more.
-fn less(x: u64, y: u64) -> u64
-    ensures { λ r. ⌜ r ≡ x - y ⌝ }
-{
-    if x < y {
-        return 0;
-    }
-    x - y
 }
 
 // The smaller of top and x + y; no sum wraps.
@@ -46,8 +38,8 @@ fn capped_sum(top: u64, x: u64, y: u64) -> u64
 pub fn police(a: Account, bag: u64, jitter: u64, time: u64) -> Checked
     ensures { λ r. ⌜ ((v : VirtualLink) → bagOfLink v ≡ bag → v .jitter ≡ jitter → r ≡ checkOf v a time) ⌝ }
 {
-    let gone = less(time, a.tick);
-    let short = less(bag, a.credit);
+    let gone = excess(time, a.tick);
+    let short = excess(bag, a.credit);
     if gone < short {
         let grown = a.credit + gone;
         return Checked {
@@ -58,7 +50,7 @@ pub fn police(a: Account, bag: u64, jitter: u64, time: u64) -> Checked
             },
         };
     }
-    let credit = capped_sum(jitter, less(a.credit, bag), gone - short);
+    let credit = capped_sum(jitter, excess(a.credit, bag), gone - short);
     Checked {
         passed: true,
         account: Account { credit, tick: time },
@@ -74,12 +66,6 @@ pub fn charge(a: &mut Account, bag: u64, jitter: u64, time: u64) -> bool
     c.passed
 }
 
-fn wide32(x: u32) -> u64
-    ensures { λ r. ⌜ (r ≡ x) × (r < 2 ^ 32) ⌝ }
-{
-    x as u64
-}
-
 // Credit B + J for each link; the accounts behind the count are blank.
 pub fn full_accounts(t: Table) -> [Account; 256]
     requires { ⌜ t .count ≤ 256 ⌝ }
@@ -92,7 +78,7 @@ pub fn full_accounts(t: Table) -> [Account; 256]
     while i < n {
         let link = t.links[i];
         let full = Account {
-            credit: table::bag(link.code) + wide32(link.jitter),
+            credit: table::bag(link.code) + u32_as_u64(link.jitter),
             tick: 0,
         };
         accounts[i] = full;

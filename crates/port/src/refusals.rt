@@ -1,7 +1,7 @@
 // The refusals of a report, 10 to 16, in order.
 use crate::Port;
 use crate::Report;
-use lookup::wide;
+use numbers::u16_as_u64;
 use queue_fitness::Fitness;
 ghost use mathlib.Core.Path.{_≡_};
 ghost use Rattle.model.specs.Basics.{firstMet};
@@ -28,7 +28,7 @@ fn frame_refusal(ticks: [u64; 24], lines: u16, report: Report) -> u32
     let Report::Frame(time, line, _, length) = report else {
         return 0;
     };
-    if wide(lines) <= line {
+    if u16_as_u64(lines) <= line {
         return 13;
     }
     if length < 84 {

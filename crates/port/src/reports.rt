@@ -5,6 +5,7 @@ use crate::Report;
 use crate::charging;
 use crate::refusals;
 use lookup::Place;
+use numbers::u32_as_u64;
 ghost use mathlib.Core.Path.{_≡_};
 ghost use lib.ListN.{length};
 ghost use Rattle.model.specs.Report.{reportRefusal};
@@ -48,7 +49,7 @@ pub(crate) fn report(p: Port, r: Report, list: &mut [u64]) -> Answer
                     reached,
                     i,
                     table::bag(link.code),
-                    storing::wide32(link.jitter),
+                    u32_as_u64(link.jitter),
                     time,
                 );
                 let charged = c.port;

@@ -1,7 +1,7 @@
 // Internal to the product: the fitness of the queues of a port record and of its sender.
-use fitness::wide32;
 use lookup::Place;
-use lookup::wide;
+use numbers::u16_as_u64;
+use numbers::u32_as_u64;
 use scheduler::Queue;
 use scheduler::Sender;
 use table::Table;
@@ -68,7 +68,7 @@ fn load_fits(t: Table, guesses: &[u8; 1024], q: Queue, priority: u8, clock: u64)
         sum += scheduler::occupancy(f.length);
         i += 1;
     }
-    sum <= wide32(q.mark)
+    sum <= u32_as_u64(q.mark)
 }
 
 // Counts, frames, held sums and marks, and the frame being sent. An empty queue is not read: reading one is a copy.
@@ -96,7 +96,7 @@ pub fn queues_fit(t: Table, queues: [Queue; 8], sender: Sender, clock: u64) -> F
         if t.sizes[i] < queues[i].mark {
             return unfit();
         }
-        frames += wide(queues[i].count);
+        frames += u16_as_u64(queues[i].count);
         i += 1;
     }
     let Sender::Sending(p, start) = sender else {

@@ -1,6 +1,7 @@
 // Internal to the product: the record reader of the table file: what the bytes not yet read begin with, told what is due.
 pub mod bytes;
 
+use numbers::u16_as_usize;
 use table::VirtualLink;
 use table::checks;
 ghost use mathlib.Core.Path.{_≡_};
@@ -33,7 +34,7 @@ fn header_refusal(rest: &[u8], kind: u16, len: u16) -> u32
     if bytes::number2(rest, 2) != kind {
         return 2;
     }
-    if rest.len() < 2 + bytes::wide_size(len) {
+    if rest.len() < 2 + u16_as_usize(len) {
         return 1;
     }
     0
@@ -138,7 +139,7 @@ pub fn record_at(rest: &[u8], read: usize, count: u16, lines: u16, previous: u16
     if read == 0 {
         return counts_at(rest);
     }
-    if read <= bytes::wide_size(count) {
+    if read <= u16_as_usize(count) {
         return link_at(rest, read - 1, lines, previous);
     }
     sizes_at(rest)

@@ -1,4 +1,5 @@
 // Internal to the product: queues, the sender, and the advance frame by frame.
+use numbers::u16_as_u64;
 ghost use mathlib.Core.Path.{_≡_};
 ghost use mathlib.Core.List.{_++_, _∷_};
 ghost use Prim.Native.Nat.{_+_, _≤_, _<_};
@@ -39,17 +40,11 @@ pub struct Moved {
     pub bytes: u64,
 }
 
-fn wide(x: u16) -> u64
-    ensures { λ r. ⌜ (r ≡ x) × (r ≤ 65535) ⌝ }
-{
-    x as u64
-}
-
 // What a frame takes of its buffer.
 pub fn occupancy(length: u16) -> u64
     ensures { λ r. ⌜ (r ≡ occupied length) × (r ≤ 65535) ⌝ }
 {
-    wide(length)
+    u16_as_u64(length)
 }
 
 // The bytes that a queue holds.
@@ -86,7 +81,7 @@ pub fn frames_held(queues: [Queue; 8]) -> u64
     let mut sum: u64 = 0;
     let mut i: usize = 0;
     while i < 8 {
-        sum += wide(queues[i].count);
+        sum += u16_as_u64(queues[i].count);
         i += 1;
     }
     sum
@@ -171,12 +166,12 @@ pub fn advance(
         let i = p as usize;
         let q = queues[i];
         let f = q.frames[0];
-        let length = wide(f.length);
+        let length = u16_as_u64(f.length);
         let end = start + length;
         if time < end {
             break;
         }
-        put(list, 3 * frames, wide(f.number), length, end);
+        put(list, 3 * frames, u16_as_u64(f.number), length, end);
         let rest = without_head(q);
         queues[i] = rest;
         sender = Sender::Idle;

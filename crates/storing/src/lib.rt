@@ -1,4 +1,6 @@
 // Internal to the product: the filter, and a frame that passed the police check, stored or dropped.
+use numbers::u8_as_u64;
+use numbers::u32_as_u64;
 use scheduler::Frame;
 use scheduler::Queue;
 use table::VirtualLink;
@@ -16,18 +18,6 @@ pub struct Settled {
     pub queue: Queue,
 }
 
-fn wide8(x: u8) -> u64
-    ensures { λ r. ⌜ r ≡ x ⌝ }
-{
-    x as u64
-}
-
-pub fn wide32(x: u32) -> u64
-    ensures { λ r. ⌜ (r ≡ x) × (r < 2 ^ 32) ⌝ }
-{
-    x as u64
-}
-
 fn larger(x: u32, y: u32) -> u32
     ensures { λ r. ⌜ r ≡ max x y ⌝ }
 {
@@ -41,7 +31,7 @@ fn larger(x: u32, y: u32) -> u32
 pub fn admits(link: VirtualLink, line: u64, length: u16) -> bool
     ensures { λ r. ⌜ ((n : ℕ) → r ≡ admitsFrame (linkOf n link) line length) ⌝ }
 {
-    if wide8(link.line) != line {
+    if u8_as_u64(link.line) != line {
         return false;
     }
     if length < link.least {
@@ -78,7 +68,7 @@ pub fn settle(queue: Queue, size: u32, f: Frame) -> Settled
 {
     let held = scheduler::held(queue);
     let more = scheduler::occupancy(f.length);
-    if !has_room(held, more, wide32(size)) {
+    if !has_room(held, more, u32_as_u64(size)) {
         return Settled { verdict: 3, queue };
     }
     let longer = stored(queue, f, held + more);

@@ -1,6 +1,7 @@
 // The checks of a table: counts (3), each link (4, then 5), sizes (6).
 use crate::Table;
 use crate::VirtualLink;
+use numbers::u8_as_u16;
 ghost use mathlib.Core.Path.{_≡_};
 ghost use mathlib.Core.Bool.{true};
 ghost use mathlib.Core.Option.{none};
@@ -9,12 +10,6 @@ ghost use Rattle.model.specs.Basics.{firstMet};
 ghost use Rattle.model.specs.Table.{countsInRange, fieldsInRange, linkChecks, linksChecks, sizeChecks};
 ghost use Rattle.table.specs.View.{linkOf, linksOf};
 ghost use Rattle.table.specs.Checks.{previousOf};
-
-fn wide16(x: u8) -> u16
-    ensures { λ r. ⌜ (r ≡ x) × (r ≤ 255) ⌝ }
-{
-    x as u16
-}
 
 pub fn counts_in_range(lines: u16, count: u16) -> bool
     ensures { λ r. ⌜ r ≡ countsInRange lines count ⌝ }
@@ -35,7 +30,7 @@ pub fn counts_in_range(lines: u16, count: u16) -> bool
 fn fields_in_range(lines: u16, link: VirtualLink) -> bool
     ensures { λ r. ⌜ ((n : ℕ) → n ≤ 65535 → r ≡ fieldsInRange lines (linkOf n link)) ⌝ }
 {
-    if lines <= wide16(link.line) {
+    if lines <= u8_as_u16(link.line) {
         return false;
     }
     if 7 < link.priority {

@@ -67,7 +67,7 @@ pub(crate) fn taken_in(next: Record, read: usize, before: Step) -> Step
             link,
         };
     }
-    if bytes::wide_size(before.count) < read {
+    if numbers::u16_as_usize(before.count) < read {
         return stop(record_reader::refusal_of(next), before);
     }
     let Record::Link(number, link) = next else {

@@ -10,8 +10,8 @@ use Rattle.arrivals.proofs.arrivals.Tie as tie
 loads-of-requires : tie.Need-loads-of-requires
 loads-of-requires c κs = search needs
 
-index-requires : tie.Need-index-requires
-index-requires c κs = search needs
+u16-as-usize-requires : tie.Need-u16-as-usize-requires
+u16-as-usize-requires c κs = search needs
 
 total-requires : tie.Need-total-requires
 total-requires c κs =
@@ -22,10 +22,10 @@ returns : tie.Need-returns
 returns c =
     let s = c .before .before .before in
     let d = c .before .before .loads-of in
-    let e = rw (c .before .index .ensures) at (c .total .ensures .0) in (
+    let e = rw (c .before .u16-as-usize .ensures .0) at (c .total .ensures .0) in (
       e ∙ flow-is (less 0) (between (s .args .low) (s .args .high)) (linksOf (s .args .t)) (s .args .w) (d .result) (s .args .t .lines) (s .pre .0 .lines) (d .ensures),
       omega arith,
     )
 
 pub arrivals-spec : {M : Type 1} → statement M
-arrivals-spec = tie.close (tie.spec loads-of-requires index-requires total-requires returns)
+arrivals-spec = tie.close (tie.spec loads-of-requires u16-as-usize-requires total-requires returns)

@@ -4,8 +4,8 @@ use borrow.Author.Needs.{needs}
 use Rattle.arrivals.proofs.frames.Statement.{statement}
 use Rattle.arrivals.proofs.frames.Tie as tie
 
-wide32-requires : tie.Need-wide32-requires
-wide32-requires c κs = search needs
+u32-as-u64-requires : tie.Need-u32-as-u64-requires
+u32-as-u64-requires c κs = search needs
 
 add-result : tie.Need-add-result
 add-result c = search needs
@@ -24,10 +24,10 @@ add-result-2 c =
 returns : tie.Need-returns
 returns c =
     let s = c .before .before in (
-      frames-are (s .args .l) (s .pre .0) (s .args .w) (c .before .wide32 .result) (c .before .wide32 .ensures),
-      omega (arith, frames-few (s .args .l) (s .pre .0) (s .args .w) (c .before .wide32 .result) (c .before .wide32 .ensures) (s .pre .1)),
+      frames-are (s .args .l) (s .pre .0) (s .args .w) (c .before .u32-as-u64 .result) (c .before .u32-as-u64 .ensures .0),
+      omega (arith, frames-few (s .args .l) (s .pre .0) (s .args .w) (c .before .u32-as-u64 .result) (c .before .u32-as-u64 .ensures .0) (s .pre .1)),
     )
 
 pub frames-spec : {M : Type 1} → statement M
 frames-spec =
-    tie.close (tie.spec wide32-requires add-result cast-result shr-result add-result-2 returns)
+    tie.close (tie.spec u32-as-u64-requires add-result cast-result shr-result add-result-2 returns)

@@ -17,13 +17,13 @@ Inv-loop w low high cut t count sums₀ tops₀ i₀ sums tops i = (i ≤ t .cou
 abbrev μ-loop : tie.MeasureT-loop
 μ-loop w low high cut t count sums₀ tops₀ i₀ sums tops i = t .count - i
 
-index-requires : tie.Need-index-requires Inv-loop μ-loop
-index-requires c κs = search needs
+u16-as-usize-requires : tie.Need-u16-as-usize-requires Inv-loop μ-loop
+u16-as-usize-requires c κs = search needs
 
 loop-holds : tie.Need-loop-holds Inv-loop μ-loop
 loop-holds c =
     let a = c .before .args in
-    (omega arith, c .index .ensures, load-none (less (a .cut)) (between (a .low) (a .high)) (linksOf (a .t1)) (a .w))
+    (omega arith, c .u16-as-usize .ensures .0, load-none (less (a .cut)) (between (a .low) (a .high)) (linksOf (a .t1)) (a .w))
 
 mul-l : tie.Need-mul-l Inv-loop μ-loop
 mul-l c = omega arith
@@ -37,8 +37,8 @@ member-requires c κs = search needs
 cast-k : tie.Need-cast-k Inv-loop μ-loop
 cast-k c = omega arith
 
-wide16-requires : tie.Need-wide16-requires Inv-loop μ-loop
-wide16-requires c κs = search needs
+u16-as-u64-requires : tie.Need-u16-as-u64-requires Inv-loop μ-loop
+u16-as-u64-requires c κs = search needs
 
 excess-requires : tie.Need-excess-requires Inv-loop μ-loop
 excess-requires c κs = search needs
@@ -130,13 +130,13 @@ loads-of-spec =
     (tie.spec
     Inv-loop
     μ-loop
-    index-requires
+    u16-as-usize-requires
     loop-holds
     mul-l
     element-copy-out-l
     member-requires
     cast-k
-    wide16-requires
+    u16-as-u64-requires
     excess-requires
     mul-sums
     array-read-sums

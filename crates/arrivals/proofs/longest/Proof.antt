@@ -17,11 +17,11 @@ Inv-loop low high t count top₀ i₀ top i = (i ≤ t .count) × (count ≡ t .
 abbrev μ-loop : tie.MeasureT-loop
 μ-loop low high t count top₀ i₀ top i = t .count - i
 
-index-requires : tie.Need-index-requires Inv-loop μ-loop
-index-requires c κs = search needs
+u16-as-usize-requires : tie.Need-u16-as-usize-requires Inv-loop μ-loop
+u16-as-usize-requires c κs = search needs
 
 loop-holds : tie.Need-loop-holds Inv-loop μ-loop
-loop-holds c = (omega arith, c .index .ensures, longest-none (between (c .before .args .low) (c .before .args .high)) (linksOf (c .before .args .t1)), omega arith)
+loop-holds c = (omega arith, c .u16-as-usize .ensures .0, longest-none (between (c .before .args .low) (c .before .args .high)) (linksOf (c .before .args .t1)), omega arith)
 
 mul-l : tie.Need-mul-l Inv-loop μ-loop
 mul-l c = omega arith
@@ -32,8 +32,8 @@ element-copy-out-l c = omega arith
 member-requires : tie.Need-member-requires Inv-loop μ-loop
 member-requires c κs = search needs
 
-wide16-requires : tie.Need-wide16-requires Inv-loop μ-loop
-wide16-requires c κs = search needs
+u16-as-u64-requires : tie.Need-u16-as-u64-requires Inv-loop μ-loop
+u16-as-u64-requires c κs = search needs
 
 larger-requires : tie.Need-larger-requires Inv-loop μ-loop
 larger-requires c κs = search needs
@@ -76,12 +76,12 @@ longest-spec =
     (tie.spec
     Inv-loop
     μ-loop
-    index-requires
+    u16-as-usize-requires
     loop-holds
     mul-l
     element-copy-out-l
     member-requires
-    wide16-requires
+    u16-as-u64-requires
     larger-requires
     add-i
     loop-less

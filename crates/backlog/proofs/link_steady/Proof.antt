@@ -21,26 +21,26 @@ mul-result c =
     let n = c .before .frames in
     omega (arith, product-fits (n .result) (c .bag .result) (n .ensures .1) (omega (arith, bag-fits (c .before .before .before .before .args .l .code) .most)))
 
-wide32-requires : tie.Need-wide32-requires
-wide32-requires c κs = search needs
+u32-as-u64-requires : tie.Need-u32-as-u64-requires
+u32-as-u64-requires c κs = search needs
 
 sub-result : tie.Need-sub-result
 sub-result c =
     let a = c .before .before .before .before .before .args in
     let n = c .before .before .frames in
-    omega (arith, past-window (a .l) (a .w) (n .result) (c .before .bag .result) (c .wide32 .result) (n .ensures .0) (c .before .bag .ensures) (c .wide32 .ensures))
+    omega (arith, past-window (a .l) (a .w) (n .result) (c .before .bag .result) (c .u32-as-u64 .result) (n .ensures .0) (c .before .bag .ensures) (c .u32-as-u64 .ensures .0))
 
 sub-result-2 : tie.Need-sub-result-2
 sub-result-2 c =
     let a = c .before .before .before .before .before .args in
     let n = c .before .before .frames in
-    omega (arith, past-window (a .l) (a .w) (n .result) (c .before .bag .result) (c .wide32 .result) (n .ensures .0) (c .before .bag .ensures) (c .wide32 .ensures))
+    omega (arith, past-window (a .l) (a .w) (n .result) (c .before .bag .result) (c .u32-as-u64 .result) (n .ensures .0) (c .before .bag .ensures) (c .u32-as-u64 .ensures .0))
 
 returns-2 : tie.Need-returns-2
 returns-2 c =
     let a = c .before .before .before .before .before .args in
     let n = c .before .before .frames in
-    link-steady (a .l) (a .w) (n .result) (c .before .bag .result) (c .wide32 .result) (n .ensures .0) (c .before .bag .ensures) (c .wide32 .ensures) (a .high)
+    link-steady (a .l) (a .w) (n .result) (c .before .bag .result) (c .u32-as-u64 .result) (n .ensures .0) (c .before .bag .ensures) (c .u32-as-u64 .ensures .0) (a .high)
 
 pub link-steady-spec : {M : Type 1} → statement M
 link-steady-spec =
@@ -50,7 +50,7 @@ link-steady-spec =
     frames-requires
     bag-requires
     mul-result
-    wide32-requires
+    u32-as-u64-requires
     sub-result
     sub-result-2
     returns-2)

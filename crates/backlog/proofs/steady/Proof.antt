@@ -15,11 +15,11 @@ Inv-loop w high t count last₀ i₀ last i = (i ≤ t .count) × (count ≡ t .
 abbrev μ-loop : tie.MeasureT-loop
 μ-loop w high t count last₀ i₀ last i = t .count - i
 
-index-requires : tie.Need-index-requires Inv-loop μ-loop
-index-requires c κs = search needs
+u16-as-usize-requires : tie.Need-u16-as-usize-requires Inv-loop μ-loop
+u16-as-usize-requires c κs = search needs
 
 loop-holds : tie.Need-loop-holds Inv-loop μ-loop
-loop-holds c = (omega arith, c .index .ensures, omega arith, λ i h. absurd (omega arith))
+loop-holds c = (omega arith, c .u16-as-usize .ensures .0, omega arith, λ i h. absurd (omega arith))
 
 mul-l : tie.Need-mul-l Inv-loop μ-loop
 mul-l c = omega arith
@@ -59,7 +59,7 @@ steady-spec =
     (tie.spec
     Inv-loop
     μ-loop
-    index-requires
+    u16-as-usize-requires
     loop-holds
     mul-l
     element-copy-out-l

@@ -15,8 +15,8 @@ steady-requires c κs = search needs
 smaller-requires : tie.Need-smaller-requires
 smaller-requires c κs = search needs
 
-index-requires : tie.Need-index-requires
-index-requires c κs = search needs
+u16-as-usize-requires : tie.Need-u16-as-usize-requires
+u16-as-usize-requires c κs = search needs
 
 returns : tie.Need-returns
 returns c =
@@ -26,7 +26,7 @@ returns c =
     let d = c .before .before .steady in
     stretched (s .args .t) (s .pre .1) (s .args .p) (s .args .blocking) (s .args .longest) (s .args .last) (s .args .w) (s .pre .0) (s .pre .2)
     (own .result) (up .result) (own .ensures) (up .ensures) (d .result) (c .before .smaller .result) (d .ensures .0) (d .ensures .1) (c .before .smaller .ensures)
-    (c .index .result) (c .index .ensures)
+    (c .u16-as-usize .result) (c .u16-as-usize .ensures .0)
 
 pub stretch-at-spec : {M : Type 1} → statement M
 stretch-at-spec =
@@ -36,5 +36,5 @@ stretch-at-spec =
     loads-of-requires-2
     steady-requires
     smaller-requires
-    index-requires
+    u16-as-usize-requires
     returns)

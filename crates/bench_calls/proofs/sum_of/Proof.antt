@@ -17,14 +17,14 @@ abbrev μ-loop : tie.MeasureT-loop
 loop-holds : tie.Need-loop-holds Inv-loop μ-loop
 loop-holds c = (omega arith, omega arith, sum-none (c .args .t1))
 
-mul-wide : tie.Need-mul-wide Inv-loop μ-loop
-mul-wide c = omega arith
+mul-u32-as-u64 : tie.Need-mul-u32-as-u64 Inv-loop μ-loop
+mul-u32-as-u64 c = omega arith
 
-array-read-wide : tie.Need-array-read-wide Inv-loop μ-loop
-array-read-wide c = omega arith
+array-read-u32-as-u64 : tie.Need-array-read-u32-as-u64 Inv-loop μ-loop
+array-read-u32-as-u64 c = omega arith
 
-wide-requires : tie.Need-wide-requires Inv-loop μ-loop
-wide-requires c κs = search needs
+u32-as-u64-requires : tie.Need-u32-as-u64-requires Inv-loop μ-loop
+u32-as-u64-requires c κs = search needs
 
 add-total : tie.Need-add-total Inv-loop μ-loop
 add-total c = omega arith
@@ -55,9 +55,9 @@ sum-of-spec =
     Inv-loop
     μ-loop
     loop-holds
-    mul-wide
-    array-read-wide
-    wide-requires
+    mul-u32-as-u64
+    array-read-u32-as-u64
+    u32-as-u64-requires
     add-total
     add-i
     loop-less

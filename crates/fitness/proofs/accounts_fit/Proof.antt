@@ -50,8 +50,8 @@ element-copy-out-link c = omega arith
 bag-requires : tie.Need-bag-requires Inv-loop μ-loop
 bag-requires c κs = search needs
 
-wide32-requires : tie.Need-wide32-requires Inv-loop μ-loop
-wide32-requires c κs = search needs
+u32-as-u64-requires : tie.Need-u32-as-u64-requires Inv-loop μ-loop
+u32-as-u64-requires c κs = search needs
 
 add-if2 : tie.Need-add-if2 Inv-loop μ-loop
 add-if2 c = omega (arith, bag-most (getD (c .before .before .before .before .before .before .args .t2 .links) (c .before .before .before .before .before .loop .i) blankFields .code))
@@ -68,7 +68,7 @@ returns-2 c =
     let loop = c .before .before .before .before .before .before .loop in
     let w = accounts-whole (start .args .t1) _ (start .good .0) in
     let s = sized (start .args .t2) _ (start .good .1 .0) in
-    any-false _ 1 (sym (all-stops _ _ (loop .i) (omega arith) (credit-high (start .args .t1) (start .args .t2) s (start .pre) (loop .i) (omega arith) (omega arith) (c .before .before .bag .result + c .before .wide32 .result) (omega arith) (omega arith))))
+    any-false _ 1 (sym (all-stops _ _ (loop .i) (omega arith) (credit-high (start .args .t1) (start .args .t2) s (start .pre) (loop .i) (omega arith) (omega arith) (c .before .before .bag .result + c .before .u32-as-u64 .result) (omega arith) (omega arith))))
 
 add-i : tie.Need-add-i Inv-loop μ-loop
 add-i c = omega arith
@@ -85,7 +85,7 @@ loop-again c =
       omega arith,
       refl,
       all-more _ (loop .i) (loop .inv .2) (tick-past (start .args .t1) (start .args .t2 .count) (start .args .clock) (loop .i) (omega arith) (omega arith) (omega arith)),
-      all-more _ (loop .i) (loop .inv .3) (credit-within (start .args .t1) (start .args .t2) s (start .pre) (loop .i) (omega arith) (omega arith) (c .before .before .bag .result + c .before .wide32 .result) (omega arith) (omega arith)),
+      all-more _ (loop .i) (loop .inv .3) (credit-within (start .args .t1) (start .args .t2) s (start .pre) (loop .i) (omega arith) (omega arith) (c .before .before .bag .result + c .before .u32-as-u64 .result) (omega arith) (omega arith)),
     )
 
 returns-3 : tie.Need-returns-3 Inv-loop μ-loop
@@ -111,7 +111,7 @@ accounts-fit-spec =
     mul-link
     element-copy-out-link
     bag-requires
-    wide32-requires
+    u32-as-u64-requires
     add-if2
     mul-if2
     element-copy-out-if2

@@ -26,15 +26,15 @@ returns-3 c =
 sub-result : tie.Need-sub-result
 sub-result c = search needs
 
-wide-requires : tie.Need-wide-requires
-wide-requires c κs = search needs
+u16-as-u64-requires : tie.Need-u16-as-u64-requires
+u16-as-u64-requires c κs = search needs
 
 returns-4 : tie.Need-returns-4
 returns-4 c =
     let a = c .before .before .before .before .before .before .args in
-    λ queues p h e. ends-later (a .clock) queues p (a .start) refl (rw (← e) (omega arith)) h (omega arith) (rw (← e) (omega arith)) (c .wide .result) (rw (← e) (c .wide .ensures .0))
+    λ queues p h e. ends-later (a .clock) queues p (a .start) refl (rw (← e) (omega arith)) h (omega arith) (rw (← e) (omega arith)) (c .u16-as-u64 .result) (rw (← e) (c .u16-as-u64 .ensures .0))
 
 pub head-fits-spec : {M : Type 1} → statement M
 head-fits-spec =
     tie.close
-    (tie.spec returns element-copy-out-f returns-2 returns-3 sub-result wide-requires returns-4)
+    (tie.spec returns element-copy-out-f returns-2 returns-3 sub-result u16-as-u64-requires returns-4)

@@ -14,16 +14,16 @@ returns : tie.Need-returns
 returns c =
     found-guess (c .before .before .before .pre .2) (omega arith) (omega arith)
 
-wide-requires : tie.Need-wide-requires
-wide-requires c κs = search needs
+u16-as-u64-requires : tie.Need-u16-as-u64-requires
+u16-as-u64-requires c κs = search needs
 
 place-of-requires : tie.Need-place-of-requires
 place-of-requires c κs = search needs
 
 returns-2 : tie.Need-returns-2
-returns-2 c = rw (← c .before .wide .ensures .0) (c .place-of .ensures)
+returns-2 c = rw (← c .before .u16-as-u64 .ensures .0) (c .place-of .ensures)
 
 pub place-near-spec : {M : Type 1} → statement M
 place-near-spec =
     tie.close
-    (tie.spec mul-if2 element-copy-out-if2 returns wide-requires place-of-requires returns-2)
+    (tie.spec mul-if2 element-copy-out-if2 returns u16-as-u64-requires place-of-requires returns-2)

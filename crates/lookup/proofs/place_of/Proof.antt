@@ -16,17 +16,17 @@ abbrev μ-loop : tie.MeasureT-loop
 loop-holds : tie.Need-loop-holds Inv-loop μ-loop
 loop-holds c = between-start (c .pre .0)
 
-add-wide : tie.Need-add-wide Inv-loop μ-loop
-add-wide c = omega arith
+add-u16-as-u64 : tie.Need-add-u16-as-u64 Inv-loop μ-loop
+add-u16-as-u64 c = omega arith
 
-mul-wide : tie.Need-mul-wide Inv-loop μ-loop
-mul-wide c = omega arith
+mul-u16-as-u64 : tie.Need-mul-u16-as-u64 Inv-loop μ-loop
+mul-u16-as-u64 c = omega arith
 
-element-copy-out-wide : tie.Need-element-copy-out-wide Inv-loop μ-loop
-element-copy-out-wide c = omega arith
+element-copy-out-u16-as-u64 : tie.Need-element-copy-out-u16-as-u64 Inv-loop μ-loop
+element-copy-out-u16-as-u64 c = omega arith
 
-wide-requires : tie.Need-wide-requires Inv-loop μ-loop
-wide-requires c κs = search needs
+u16-as-u64-requires : tie.Need-u16-as-u64-requires Inv-loop μ-loop
+u16-as-u64-requires c κs = search needs
 
 add-low : tie.Need-add-low Inv-loop μ-loop
 add-low c = omega arith
@@ -46,14 +46,14 @@ loop-again c =
     (λ w. rw (w .1) (lower-half (start .pre .2) (loop .inv) _ refl (omega arith) (omega arith)))
     (c .if1 .came)
 
-mul-wide-2 : tie.Need-mul-wide-2 Inv-loop μ-loop
-mul-wide-2 c = omega arith
+mul-u16-as-u64-2 : tie.Need-mul-u16-as-u64-2 Inv-loop μ-loop
+mul-u16-as-u64-2 c = omega arith
 
-element-copy-out-wide-2 : tie.Need-element-copy-out-wide-2 Inv-loop μ-loop
-element-copy-out-wide-2 c = omega arith
+element-copy-out-u16-as-u64-2 : tie.Need-element-copy-out-u16-as-u64-2 Inv-loop μ-loop
+element-copy-out-u16-as-u64-2 c = omega arith
 
-wide-requires-2 : tie.Need-wide-requires-2 Inv-loop μ-loop
-wide-requires-2 c κs = search needs
+u16-as-u64-requires-2 : tie.Need-u16-as-u64-requires-2 Inv-loop μ-loop
+u16-as-u64-requires-2 c κs = search needs
 
 returns : tie.Need-returns Inv-loop μ-loop
 returns c =
@@ -63,7 +63,7 @@ returns c =
 returns-2 : tie.Need-returns-2 Inv-loop μ-loop
 returns-2 c =
     let loop = c .before .before .before .before .loop in
-    found-nowhere (loop .inv) (omega arith) (λ e. c .if2 .left (c .before .wide2 .ensures .0 ∙ e))
+    found-nowhere (loop .inv) (omega arith) (λ e. c .if2 .left (c .before .u16-as-u642 .ensures .0 ∙ e))
 
 pub place-of-spec : {M : Type 1} → statement M
 place-of-spec =
@@ -72,16 +72,16 @@ place-of-spec =
     Inv-loop
     μ-loop
     loop-holds
-    add-wide
-    mul-wide
-    element-copy-out-wide
-    wide-requires
+    add-u16-as-u64
+    mul-u16-as-u64
+    element-copy-out-u16-as-u64
+    u16-as-u64-requires
     add-low
     sub-span
     loop-less
     loop-again
-    mul-wide-2
-    element-copy-out-wide-2
-    wide-requires-2
+    mul-u16-as-u64-2
+    element-copy-out-u16-as-u64-2
+    u16-as-u64-requires-2
     returns
     returns-2)

@@ -10,7 +10,7 @@ use Rattle.policing.proofs.full_accounts.Statement.{statement}
 use Rattle.policing.proofs.full_accounts.Tie as tie
 use Rattle.policing.proofs.full_accounts.Reads as reads
 use Rattle.policing.proofs.full_accounts.Lts as lts
-use Rattle.policing.proofs.wide32.Reads as wide32-reads
+use Rattle.numbers.proofs.u32_as_u64.Reads as u32-as-u64-reads
 use Rattle.table.proofs.bag.Reads as bag-reads
 
 abbrev Inv-loop : tie.InvT-loop
@@ -34,11 +34,11 @@ element-copy-out-link c = omega arith
 bag-requires : tie.Need-bag-requires Inv-loop μ-loop
 bag-requires c κs = search needs
 
-wide32-requires : tie.Need-wide32-requires Inv-loop μ-loop
-wide32-requires c κs = search needs
+u32-as-u64-requires : tie.Need-u32-as-u64-requires Inv-loop μ-loop
+u32-as-u64-requires c κs = search needs
 
 add-t17 : tie.Need-add-t17 Inv-loop μ-loop
-add-t17 c = let few : c .before .bag .result ≤ 1_600_000 = rw (c .before .bag .ensures) (bag-most _) in omega (arith, c .wide32 .ensures .1)
+add-t17 c = let few : c .before .bag .result ≤ 1_600_000 = rw (c .before .bag .ensures) (bag-most _) in omega (arith, c .u32-as-u64 .ensures .1)
 
 mul-accounts : tie.Need-mul-accounts Inv-loop μ-loop
 mul-accounts c = omega arith
@@ -54,7 +54,7 @@ loop-less c = omega arith
 
 loop-again : tie.Need-loop-again Inv-loop μ-loop
 loop-again c = let s = c .before .before .before .before .before in let l = c .before .before .before .before in
-    (rw (l .loop .inv .0) (next-account (s .args .t1) (sized (s .args .t1) _ (s .good .0)) (s .pre) (l .loop .i) (omega arith) (c .before .bag .ensures) (c .wide32 .ensures .0)), omega arith, s .pre)
+    (rw (l .loop .inv .0) (next-account (s .args .t1) (sized (s .args .t1) _ (s .good .0)) (s .pre) (l .loop .i) (omega arith) (c .before .bag .ensures) (c .u32-as-u64 .ensures .0)), omega arith, s .pre)
 
 returns : tie.Need-returns Inv-loop μ-loop
 returns c = c .before .loop .inv .0 ∙ all-accounts (c .before .before .args .t1) (c .before .loop .i) (omega arith)
@@ -70,7 +70,7 @@ full-accounts-spec =
     mul-link
     element-copy-out-link
     bag-requires
-    wide32-requires
+    u32-as-u64-requires
     add-t17
     mul-accounts
     array-set-from-accounts

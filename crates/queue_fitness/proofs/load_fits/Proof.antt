@@ -113,8 +113,8 @@ loop-again c =
       omega arith,
     )
 
-wide32-requires : tie.Need-wide32-requires Inv-loop μ-loop
-wide32-requires c κs = search needs
+u32-as-u64-requires : tie.Need-u32-as-u64-requires Inv-loop μ-loop
+u32-as-u64-requires c κs = search needs
 
 returns-3 : tie.Need-returns-3 Inv-loop μ-loop
 returns-3 c =
@@ -122,7 +122,7 @@ returns-3 c =
     let loop = c .before .before .loop in
     let w = queue-whole (start .args .t3) _ (start .good .1 .1 .0) in
     sum-decides (start .args .t1) (start .args .t3) (start .args .priority) (start .args .clock) (loop .low) (loop .i) (loop .inv .2) (omega arith)
-    (loop .inv .4 ∙ bytes-all (start .args .t3) (loop .i) (omega arith) (omega arith)) (c .wide32 .ensures .0)
+    (loop .inv .4 ∙ bytes-all (start .args .t3) (loop .i) (omega arith) (omega arith)) (c .u32-as-u64 .ensures .0)
 
 pub load-fits-spec : {M : Type 1} → statement M
 load-fits-spec =
@@ -149,5 +149,5 @@ load-fits-spec =
     add-i
     loop-less
     loop-again
-    wide32-requires
+    u32-as-u64-requires
     returns-3)

@@ -90,14 +90,14 @@ returns-3 c =
     let loop = c .before .before .before .before .before .loop in
     queue-told (start .args .t1) (start .args .clock) (start .args .t2) (start .args .sender) (c .unfit3 .result) (c .unfit3 .ensures) (loop .i) (omega arith) (mark-above (start .args .t1) (start .args .clock) (start .args .t2) (loop .i) (omega arith))
 
-mul-wide : tie.Need-mul-wide Inv-loop μ-loop
-mul-wide c = omega arith
+mul-u16-as-u64 : tie.Need-mul-u16-as-u64 Inv-loop μ-loop
+mul-u16-as-u64 c = omega arith
 
-element-copy-out-wide : tie.Need-element-copy-out-wide Inv-loop μ-loop
-element-copy-out-wide c = omega arith
+element-copy-out-u16-as-u64 : tie.Need-element-copy-out-u16-as-u64 Inv-loop μ-loop
+element-copy-out-u16-as-u64 c = omega arith
 
-wide-requires : tie.Need-wide-requires Inv-loop μ-loop
-wide-requires c κs = search needs
+u16-as-u64-requires : tie.Need-u16-as-u64-requires Inv-loop μ-loop
+u16-as-u64-requires c κs = search needs
 
 add-frames : tie.Need-add-frames Inv-loop μ-loop
 add-frames c = omega arith
@@ -192,9 +192,9 @@ queues-fit-spec =
     element-copy-out-if5-2
     unfit-requires-3
     returns-3
-    mul-wide
-    element-copy-out-wide
-    wide-requires
+    mul-u16-as-u64
+    element-copy-out-u16-as-u64
+    u16-as-u64-requires
     add-frames
     add-i
     loop-less

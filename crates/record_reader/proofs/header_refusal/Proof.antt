@@ -26,8 +26,8 @@ returns-3 c =
     let start = c .before .before .before .before .before .before in
     kind-other (start .args .kind) (start .args .len) (start .args .rest .now) (omega arith) (sym (c .before .before .before .number2 .ensures) ∙ c .before .before .if2 .left) (λ q. c .if3 .taken (c .before .number22 .ensures ∙ q))
 
-wide-size-requires : tie.Need-wide-size-requires
-wide-size-requires c κs = search needs
+u16-as-usize-requires : tie.Need-u16-as-usize-requires
+u16-as-usize-requires c κs = search needs
 
 add-if4 : tie.Need-add-if4
 add-if4 c = search needs
@@ -51,7 +51,7 @@ header-refusal-spec =
     returns-2
     number2-requires-2
     returns-3
-    wide-size-requires
+    u16-as-usize-requires
     add-if4
     returns-4
     returns-5)

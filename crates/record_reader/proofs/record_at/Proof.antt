@@ -13,8 +13,8 @@ returns c =
     let start = c .before .before .before in
     c .counts-at .ensures ∙ sym (due-counts (start .args .rest .now) (start .args .read) (start .args .count) (start .args .lines) (start .args .previous) (c .before .if1 .taken))
 
-wide-size-requires : tie.Need-wide-size-requires
-wide-size-requires c κs = search needs
+u16-as-usize-requires : tie.Need-u16-as-usize-requires
+u16-as-usize-requires c κs = search needs
 
 sub-link-at : tie.Need-sub-link-at
 sub-link-at c = search needs
@@ -41,7 +41,7 @@ record-at-spec =
     (tie.spec
     counts-at-requires
     returns
-    wide-size-requires
+    u16-as-usize-requires
     sub-link-at
     link-at-requires
     returns-2

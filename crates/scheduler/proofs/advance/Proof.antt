@@ -55,8 +55,8 @@ array-copy-out-q c = on c .inRange
 element-copy-out-f : tie.Need-element-copy-out-f Inv-loop μ-loop
 element-copy-out-f c = search needs
 
-wide-requires : tie.Need-wide-requires Inv-loop μ-loop
-wide-requires c κs = search needs
+u16-as-u64-requires : tie.Need-u16-as-u64-requires Inv-loop μ-loop
+u16-as-u64-requires c κs = search needs
 
 add-end : tie.Need-add-end Inv-loop μ-loop
 add-end c = let o = on (c .before .before .before) in omega (arith, c .before .before .before .before .before .before .before .loop .inv .0 .later, c .before .before .before .before .before .before .before .loop .inv .1)
@@ -64,8 +64,8 @@ add-end c = let o = on (c .before .before .before) in omega (arith, c .before .b
 mul-put : tie.Need-mul-put Inv-loop μ-loop
 mul-put c = omega (arith, c .before .before .before .before .before .before .before .before .before .loop .inv .0 .most)
 
-wide-requires-2 : tie.Need-wide-requires-2 Inv-loop μ-loop
-wide-requires-2 c κs = search needs
+u16-as-u64-requires-2 : tie.Need-u16-as-u64-requires-2 Inv-loop μ-loop
+u16-as-u64-requires-2 c κs = search needs
 
 put-requires : tie.Need-put-requires Inv-loop μ-loop
 put-requires c κs = has-room (c .before .before .before .before .before .before .before .before .before .before .loop .inv .0) (c .before .before .before .before .before .before .before .before .before .sender-from .ensures) (c .before .before .before .before .before .before .before .sender .given .1)
@@ -97,9 +97,9 @@ loop-less c = fewer (c .before .before .before .before .before .before .before .
 loop-again : tie.Need-loop-again Inv-loop μ-loop
 loop-again c =
     let h = head (c .before .before .before .before .before .before .before .before .before .before .before) in
-    let le = c .before .before .before .before .before .before .before .before .wide .ensures .0 in (
+    let le = c .before .before .before .before .before .before .before .before .u16-as-u64 .ensures .0 in (
       one-more (c .before .before .before .before .before .before .before .before .before .before .before .before .before .before .before .loop .inv .0) (c .before .before .before .before .before .before .before .before .before .before .before .before .before .before .sender-from .ensures) (c .before .before .before .before .before .before .before .before .before .before .before .before .sender .given .1) (le ∙ sym (ap (λ (f : Frame). f .length) h))
-          (c .before .before .before .before .before .wide2 .ensures .0 ∙ sym (ap (λ (f : Frame). f .number) h)) (c .occupancy .ensures .0 ∙ sym (ap occupied le)) (c .occupancy .ensures .1)
+          (c .before .before .before .before .before .u16-as-u642 .ensures .0 ∙ sym (ap (λ (f : Frame). f .number) h)) (c .occupancy .ensures .0 ∙ sym (ap occupied le)) (c .occupancy .ensures .1)
           (c .before .before .before .before .before .before .before .if1 .left) (c .before .without-head .ensures) (c .before .before .before .before .put .ensures) (c .before .before .before .before .put .kept .0),
       c .before .before .before .before .before .before .before .before .before .before .before .before .before .before .before .loop .inv .1,
     )
@@ -116,7 +116,7 @@ same-length-2 c = c .before .before .before .before .before .before .before .bef
 returns-2 : tie.Need-returns-2 Inv-loop μ-loop
 returns-2 c =
     over-sending (c .before .before .before .before .before .before .before .before .loop .inv .0) (c .before .before .before .before .before .before .before .sender-from .ensures) (c .before .before .before .before .before .sender .given .1)
-    (c .before .wide .ensures .0 ∙ sym (ap (λ (f : Frame). f .length) (head (c .before .before .before .before)))) (c .if1 .taken)
+    (c .before .u16-as-u64 .ensures .0 ∙ sym (ap (λ (f : Frame). f .length) (head (c .before .before .before .before)))) (c .if1 .taken)
 
 pub advance-spec : {M : Type 1} → statement M
 advance-spec =
@@ -132,10 +132,10 @@ advance-spec =
     mul-q
     array-copy-out-q
     element-copy-out-f
-    wide-requires
+    u16-as-u64-requires
     add-end
     mul-put
-    wide-requires-2
+    u16-as-u64-requires-2
     put-requires
     without-head-requires
     mul-queues

@@ -20,14 +20,14 @@ abbrev μ-loop : tie.MeasureT-loop
 loop-holds : tie.Need-loop-holds Inv-loop μ-loop
 loop-holds c = (omega arith, omega arith, frames-none (queuesOf (c .args .t1)))
 
-mul-wide : tie.Need-mul-wide Inv-loop μ-loop
-mul-wide c = omega arith
+mul-u16-as-u64 : tie.Need-mul-u16-as-u64 Inv-loop μ-loop
+mul-u16-as-u64 c = omega arith
 
-element-copy-out-wide : tie.Need-element-copy-out-wide Inv-loop μ-loop
-element-copy-out-wide c = omega arith
+element-copy-out-u16-as-u64 : tie.Need-element-copy-out-u16-as-u64 Inv-loop μ-loop
+element-copy-out-u16-as-u64 c = omega arith
 
-wide-requires : tie.Need-wide-requires Inv-loop μ-loop
-wide-requires c κs = search needs
+u16-as-u64-requires : tie.Need-u16-as-u64-requires Inv-loop μ-loop
+u16-as-u64-requires c κs = search needs
 
 add-sum : tie.Need-add-sum Inv-loop μ-loop
 add-sum c = omega arith
@@ -58,9 +58,9 @@ frames-held-spec =
     Inv-loop
     μ-loop
     loop-holds
-    mul-wide
-    element-copy-out-wide
-    wide-requires
+    mul-u16-as-u64
+    element-copy-out-u16-as-u64
+    u16-as-u64-requires
     add-sum
     add-i
     loop-less

@@ -5,12 +5,12 @@ use borrow.Author.Needs.{needs}
 use Rattle.scheduler.proofs.occupancy.Statement.{statement}
 use Rattle.scheduler.proofs.occupancy.Tie as tie
 
-wide-requires : tie.Need-wide-requires
-wide-requires c κs = search needs
+u16-as-u64-requires : tie.Need-u16-as-u64-requires
+u16-as-u64-requires c κs = search needs
 
 returns : tie.Need-returns
 unfolding occupied
 returns c = omega arith
 
 pub occupancy-spec : {M : Type 1} → statement M
-occupancy-spec = tie.close (tie.spec wide-requires returns)
+occupancy-spec = tie.close (tie.spec u16-as-u64-requires returns)

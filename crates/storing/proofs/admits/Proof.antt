@@ -7,13 +7,13 @@ use Rattle.storing.proofs.admits.Statement.{statement}
 use Rattle.storing.proofs.admits.Tie as tie
 use Rattle.storing.proofs.admits.Reads as reads
 use Rattle.storing.proofs.admits.Lts as lts
-use Rattle.storing.proofs.wide8.Reads as wide8-reads
+use Rattle.numbers.proofs.u8_as_u64.Reads as u8-as-u64-reads
 
-wide8-requires : tie.Need-wide8-requires
-wide8-requires c κs = search needs
+u8-as-u64-requires : tie.Need-u8-as-u64-requires
+u8-as-u64-requires c κs = search needs
 
 returns : tie.Need-returns
-returns c = let s = c .before .before in λ n. other-line (linkOf n (s .args .link)) (s .args .line) (s .args .«length») (λ e. c .if1 .taken (c .before .wide8 .ensures ∙ e))
+returns c = let s = c .before .before in λ n. other-line (linkOf n (s .args .link)) (s .args .line) (s .args .«length») (λ e. c .if1 .taken (c .before .u8-as-u64 .ensures .0 ∙ e))
 
 returns-2 : tie.Need-returns-2
 returns-2 c = let s = c .before .before .before .before in λ n. too-short (linkOf n (s .args .link)) (s .args .line) (s .args .«length») (omega arith) (c .if2 .taken)
@@ -22,4 +22,4 @@ returns-3 : tie.Need-returns-3
 returns-3 c = let s = c .before .before .before .before .before in λ n. not-too-long (linkOf n (s .args .link)) (s .args .line) (s .args .«length») (omega arith) (c .before .if2 .left)
 
 pub admits-spec : {M : Type 1} → statement M
-admits-spec = tie.close (tie.spec wide8-requires returns returns-2 returns-3)
+admits-spec = tie.close (tie.spec u8-as-u64-requires returns returns-2 returns-3)

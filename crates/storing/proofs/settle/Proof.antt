@@ -8,7 +8,7 @@ use Rattle.storing.proofs.settle.Reads as reads
 use Rattle.storing.proofs.settle.Lts as lts
 use Rattle.storing.proofs.has_room.Reads as has-room-reads
 use Rattle.storing.proofs.stored.Reads as stored-reads
-use Rattle.storing.proofs.wide32.Reads as wide32-reads
+use Rattle.numbers.proofs.u32_as_u64.Reads as u32-as-u64-reads
 use Rattle.scheduler.proofs.held.Reads as held-reads
 use Rattle.scheduler.proofs.occupancy.Reads as occupancy-reads
 
@@ -18,24 +18,24 @@ held-requires c κs = search needs
 occupancy-requires : tie.Need-occupancy-requires
 occupancy-requires c κs = search needs
 
-wide32-requires : tie.Need-wide32-requires
-wide32-requires c κs = search needs
+u32-as-u64-requires : tie.Need-u32-as-u64-requires
+u32-as-u64-requires c κs = search needs
 
 has-room-requires : tie.Need-has-room-requires
 has-room-requires c κs = search needs
 
 returns : tie.Need-returns
-returns c = settles-not (c .before .before .before .before .before .args .queue) (c .before .before .before .before .before .args .size) (c .before .before .before .before .before .args .f) (c .before .before .before .before .held .ensures) (c .before .before .before .occupancy .ensures .0) (c .before .before .wide32 .ensures .0) (c .before .has-room .ensures) (not-true (c .before .has-room .result) (c .if1 .taken))
+returns c = settles-not (c .before .before .before .before .before .args .queue) (c .before .before .before .before .before .args .size) (c .before .before .before .before .before .args .f) (c .before .before .before .before .held .ensures) (c .before .before .before .occupancy .ensures .0) (c .before .before .u32-as-u64 .ensures .0) (c .before .has-room .ensures) (not-true (c .before .has-room .result) (c .if1 .taken))
 
 add-stored : tie.Need-add-stored
-add-stored c = omega (arith, has-room (c .before .before .before .before .before .args .queue) (c .before .before .before .before .before .args .size) (c .before .before .before .before .before .args .f) (c .before .before .before .before .held .ensures) (c .before .before .before .occupancy .ensures .0) (c .before .before .wide32 .ensures .0) (c .before .has-room .ensures) (not-false (c .before .has-room .result) (c .if1 .left)), c .before .before .wide32 .ensures .1)
+add-stored c = omega (arith, has-room (c .before .before .before .before .before .args .queue) (c .before .before .before .before .before .args .size) (c .before .before .before .before .before .args .f) (c .before .before .before .before .held .ensures) (c .before .before .before .occupancy .ensures .0) (c .before .before .u32-as-u64 .ensures .0) (c .before .has-room .ensures) (not-false (c .before .has-room .result) (c .if1 .left)), c .before .before .u32-as-u64 .ensures .1)
 
 stored-requires : tie.Need-stored-requires
 stored-requires c κs =
-    (has-place (c .before .before .before .before .before .args .queue) (c .before .before .before .before .before .args .size) (c .before .before .before .before .before .args .f) (c .before .before .before .before .held .ensures) (c .before .before .before .occupancy .ensures .0) (c .before .before .wide32 .ensures .0) (c .before .has-room .ensures) (not-false (c .before .has-room .result) (c .if1 .left)) (c .before .before .before .before .before .pre), omega (arith, has-room (c .before .before .before .before .before .args .queue) (c .before .before .before .before .before .args .size) (c .before .before .before .before .before .args .f) (c .before .before .before .before .held .ensures) (c .before .before .before .occupancy .ensures .0) (c .before .before .wide32 .ensures .0) (c .before .has-room .ensures) (not-false (c .before .has-room .result) (c .if1 .left)), c .before .before .wide32 .ensures .1))
+    (has-place (c .before .before .before .before .before .args .queue) (c .before .before .before .before .before .args .size) (c .before .before .before .before .before .args .f) (c .before .before .before .before .held .ensures) (c .before .before .before .occupancy .ensures .0) (c .before .before .u32-as-u64 .ensures .0) (c .before .has-room .ensures) (not-false (c .before .has-room .result) (c .if1 .left)) (c .before .before .before .before .before .pre), omega (arith, has-room (c .before .before .before .before .before .args .queue) (c .before .before .before .before .before .args .size) (c .before .before .before .before .before .args .f) (c .before .before .before .before .held .ensures) (c .before .before .before .occupancy .ensures .0) (c .before .before .u32-as-u64 .ensures .0) (c .before .has-room .ensures) (not-false (c .before .has-room .result) (c .if1 .left)), c .before .before .u32-as-u64 .ensures .1))
 
 returns-2 : tie.Need-returns-2
-returns-2 c = settles (c .before .before .before .before .before .before .args .queue) (c .before .before .before .before .before .before .args .size) (c .before .before .before .before .before .before .args .f) (c .before .before .before .before .before .held .ensures) (c .before .before .before .before .occupancy .ensures .0) (c .before .before .before .wide32 .ensures .0) (c .before .before .has-room .ensures) (not-false (c .before .before .has-room .result) (c .before .if1 .left)) (c .stored .ensures)
+returns-2 c = settles (c .before .before .before .before .before .before .args .queue) (c .before .before .before .before .before .before .args .size) (c .before .before .before .before .before .before .args .f) (c .before .before .before .before .before .held .ensures) (c .before .before .before .before .occupancy .ensures .0) (c .before .before .before .u32-as-u64 .ensures .0) (c .before .before .has-room .ensures) (not-false (c .before .before .has-room .result) (c .before .if1 .left)) (c .stored .ensures)
 
 pub settle-spec : {M : Type 1} → statement M
 settle-spec =
@@ -43,7 +43,7 @@ settle-spec =
     (tie.spec
     held-requires
     occupancy-requires
-    wide32-requires
+    u32-as-u64-requires
     has-room-requires
     returns
     add-stored

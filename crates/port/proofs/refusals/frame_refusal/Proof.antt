@@ -17,8 +17,8 @@ enum-told c = search needs
 returns : tie.Need-returns
 returns c = λ t s l. no-frame t s (c .enum-told .given .0 .0) (ap reportOf (c .enum-told .given .1))
 
-wide-requires : tie.Need-wide-requires
-wide-requires c κs = search needs
+u16-as-u64-requires : tie.Need-u16-as-u64-requires
+u16-as-u64-requires c κs = search needs
 
 returns-2 : tie.Need-returns-2
 returns-2 c =
@@ -76,7 +76,7 @@ frame-refusal-spec =
     enum-known-report
     enum-told
     returns
-    wide-requires
+    u16-as-u64-requires
     returns-2
     returns-3
     returns-4

@@ -24,7 +24,7 @@ use Rattle.port.proofs.refusals.tick_of.Reads as tick-of-reads
 use Rattle.storing.proofs.admits.Reads as admits-reads
 use Rattle.storing.proofs.arrived.Reads as arrived-reads
 use Rattle.storing.proofs.settle.Reads as settle-reads
-use Rattle.storing.proofs.wide32.Reads as wide32-reads
+use Rattle.numbers.proofs.u32_as_u64.Reads as u32-as-u64-reads
 use Rattle.scheduler.proofs.advance.Reads as advance-reads
 use Rattle.table.proofs.bag.Reads as bag-reads
 
@@ -98,7 +98,7 @@ module _ (c : tie.After-charge-in) where
   before-charge = reached (start (framed (found filtered)) .args .p) (entire (start (framed (found filtered)))) (time (framed (found filtered))) (c .before .before .before .before .before .before .before .before .before .before .before .before .before .before .before .before .before .before .before .before .before .before .before .advance .ensures) (line (framed (found filtered))) (number (framed (found filtered))) (len (framed (found filtered))) (place (found filtered))
 
   charges : c .charge-in .result ≡ chargeOf (link filtered) before-charge (place (found filtered)) (time (framed (found filtered)))
-  charges = c .charge-in .ensures (link filtered) (sym (c .before .before .bag .ensures)) (sym (c .before .wide32 .ensures .0))
+  charges = c .charge-in .ensures (link filtered) (sym (c .before .before .bag .ensures)) (sym (c .before .u32-as-u64 .ensures .0))
 
 tick-of-requires : tie.Need-tick-of-requires
 tick-of-requires c κs = search needs
@@ -151,8 +151,8 @@ admits-requires c κs = search needs
 bag-requires : tie.Need-bag-requires
 bag-requires c κs = search needs
 
-wide32-requires : tie.Need-wide32-requires
-wide32-requires c κs = search needs
+u32-as-u64-requires : tie.Need-u32-as-u64-requires
+u32-as-u64-requires c κs = search needs
 
 charge-in-requires : tie.Need-charge-in-requires
 charge-in-requires c κs =
@@ -254,7 +254,7 @@ report-spec =
     arrived-requires
     admits-requires
     bag-requires
-    wide32-requires
+    u32-as-u64-requires
     charge-in-requires
     cast-k
     mul-settle

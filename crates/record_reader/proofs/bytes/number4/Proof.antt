@@ -8,8 +8,8 @@ use Rattle.record_reader.proofs.bytes.number4.Tie as tie
 number2-requires : tie.Need-number2-requires
 number2-requires c κs = search needs
 
-wide32-requires : tie.Need-wide32-requires
-wide32-requires c κs = search needs
+u16-as-u32-requires : tie.Need-u16-as-u32-requires
+u16-as-u32-requires c κs = search needs
 
 add-number2 : tie.Need-add-number2
 add-number2 c = search needs
@@ -17,8 +17,8 @@ add-number2 c = search needs
 number2-requires-2 : tie.Need-number2-requires-2
 number2-requires-2 c κs = search needs
 
-wide32-requires-2 : tie.Need-wide32-requires-2
-wide32-requires-2 c κs = search needs
+u16-as-u32-requires-2 : tie.Need-u16-as-u32-requires-2
+u16-as-u32-requires-2 c κs = search needs
 
 mul-result : tie.Need-mul-result
 mul-result c = search needs
@@ -29,18 +29,18 @@ add-result c = search needs
 returns : tie.Need-returns
 returns c =
     let start = c .before .before .before .before .before in
-    four-read (start .args .at) (start .args .s .now) (c .before .before .wide32 .result) (c .wide322 .result) (omega arith)
-    (c .before .before .wide32 .ensures .0 ∙ c .before .before .before .number2 .ensures) (c .wide322 .ensures .0 ∙ c .before .number22 .ensures)
+    four-read (start .args .at) (start .args .s .now) (c .before .before .u16-as-u32 .result) (c .u16-as-u322 .result) (omega arith)
+    (c .before .before .u16-as-u32 .ensures .0 ∙ c .before .before .before .number2 .ensures) (c .u16-as-u322 .ensures .0 ∙ c .before .number22 .ensures)
 
 pub number4-spec : {M : Type 1} → statement M
 number4-spec =
     tie.close
     (tie.spec
     number2-requires
-    wide32-requires
+    u16-as-u32-requires
     add-number2
     number2-requires-2
-    wide32-requires-2
+    u16-as-u32-requires-2
     mul-result
     add-result
     returns)

@@ -5,8 +5,8 @@ use Rattle.table.proofs.Ranges.{line-past, priority-past, code-past, le
 use Rattle.table.proofs.checks.fields_in_range.Statement.{statement}
 use Rattle.table.proofs.checks.fields_in_range.Tie as tie
 
-wide16-requires : tie.Need-wide16-requires
-wide16-requires c κs = search needs
+u8-as-u16-requires : tie.Need-u8-as-u16-requires
+u8-as-u16-requires c κs = search needs
 
 returns : tie.Need-returns
 returns c =
@@ -46,4 +46,4 @@ returns-7 c =
 pub fields-in-range-spec : {M : Type 1} → statement M
 fields-in-range-spec =
     tie.close
-    (tie.spec wide16-requires returns returns-2 returns-3 returns-4 returns-5 returns-6 returns-7)
+    (tie.spec u8-as-u16-requires returns returns-2 returns-3 returns-4 returns-5 returns-6 returns-7)

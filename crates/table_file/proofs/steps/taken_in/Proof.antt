@@ -25,8 +25,8 @@ returns-2 c =
     let found = c .before .before .next .given in
     sym (step-counts (start .next) (start .read) (start .before) (c .before .before .before .before .if1 .taken) ∙ counts-in (start .next) (found .0 .0) (found .0 .1 .0) (start .before) (found .1))
 
-wide-size-requires : tie.Need-wide-size-requires
-wide-size-requires c κs = search needs
+u16-as-usize-requires : tie.Need-u16-as-usize-requires
+u16-as-usize-requires c κs = search needs
 
 refusal-of-requires-2 : tie.Need-refusal-of-requires-2
 refusal-of-requires-2 c κs = search needs
@@ -63,4 +63,4 @@ returns-5 c =
     sym (step-link (start .next) (start .read) (start .before) (c .before .before .before .before .before .if1 .left) (omega arith) ∙ link-in (start .next) (found .0 .0) (found .0 .1 .0) (start .read) (start .before) (found .1))
 
 pub taken-in-spec : {M : Type 1} → statement M
-taken-in-spec = tie.close (tie.spec enum-known-next refusal-of-requires stop-requires returns returns-2 wide-size-requires refusal-of-requires-2 stop-requires-2 returns-3 enum-known-next-2 refusal-of-requires-3 stop-requires-3 returns-4 sub-t11 returns-5)
+taken-in-spec = tie.close (tie.spec enum-known-next refusal-of-requires stop-requires returns returns-2 u16-as-usize-requires refusal-of-requires-2 stop-requires-2 returns-3 enum-known-next-2 refusal-of-requires-3 stop-requires-3 returns-4 sub-t11 returns-5)
