@@ -1,19 +1,18 @@
 -- What follows from a level: no frame stays as long as the hold, and what is held is at most the bound.
-use mathlib.Core.Path.{_≡_, refl, sym, ap, _∙_}
+use mathlib.Core.Path.{_≡_, refl, ap}
 use mathlib.Core.Bool.{Bool, true, false, cond}
-use mathlib.Core.List.{List, [], _∷_}
-use Prim.Native.Nat.{ℕ, zero, suc, _+_, _-_, _*_, _≤_, _<_, min, max}
-use native.Mathlib.Nat.{le-refl, le-trans, lt-of-not-le}
+use Prim.Native.Nat.{ℕ, suc, _+_, _-_, _≤_, _<_, min}
+use native.Mathlib.Nat.{le-refl, lt-of-not-le}
 use native.Mathlib.Decide.{decLe, ℕ-discrete}
 use native.Mathlib.Omega.{arith}
 use lib.Dec.{eqb, leb, ltb}
 use borrow.Author.Tests.{eqb-true, le-leb, lt-leb, lt-ltb}
 use Rattle.model.specs.Basics.{provided, greatestTo, Each}
 use Rattle.model.specs.Units.{occupied}
-use Rattle.model.specs.Link.{VirtualLink, anyOf}
+use Rattle.model.specs.Link.{anyOf}
 use Rattle.model.specs.Table.{Table}
 use Rattle.model.specs.Bounds.{ofPriority, beyond, ownArrivals, upArrivals, longest, blocking, backlog, boundWithin}
-use Rattle.model.specs.Machine.{Frame, Sender, idle, sending, Scheduler, queueOf, headOf, held}
+use Rattle.model.specs.Machine.{Sender, idle, sending, Scheduler, queueOf, headOf, held}
 use Rattle.model.proofs.Search.{greatestTo-ge}
 use Rattle.model.proofs.Curves.{occupied-weight, greatest-within, greatest-none}
 use Rattle.model.proofs.Queues.{wireBytes, each-map, each-head, bytes-below, sizes-head, sizes-waits, up, up-one, up-two}

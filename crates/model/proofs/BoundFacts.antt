@@ -1,15 +1,15 @@
 -- Of a table that has bounds: the bound is attained and is the greatest, and the difference in it is never truncated.
-use mathlib.Core.Path.{_≡_, refl}
-use mathlib.Core.Bool.{Bool, true, false, cond}
-use Prim.Native.Nat.{ℕ, zero, suc, _+_, _-_, _≤_, _<_}
+use mathlib.Core.Path.{_≡_}
+use mathlib.Core.Bool.{true, false}
+use Prim.Native.Nat.{ℕ, _-_, _≤_, _<_}
 use native.Mathlib.Decide.{decLe}
 use native.Mathlib.Omega.{arith}
 use Rattle.model.specs.Link.{anyOf}
 use Rattle.model.specs.Table.{Table}
 use Rattle.model.specs.Bounds.{ofPriority, upArrivals, blocking, backlog, boundWithin, hold, bound}
-use Rattle.model.specs.Promises.{IsHold, BoundFacts, BoundIsGreatest}
+use Rattle.model.specs.Promises.{IsHold, BoundIsGreatest}
 use Rattle.model.proofs.Search.{greatestTo-ge, Attained, greatestTo-attained}
-use Rattle.model.proofs.Holds.{up-grows, hold-is, HasBounds, has-bounds}
+use Rattle.model.proofs.Holds.{up-grows, hold-is, has-bounds}
 
 module _ (t : Table) (p : ℕ) (is-hold : IsHold t p (hold t p)) where
   untruncated : (w : ℕ) → w < hold t p → w - blocking t p ≤ upArrivals t p w

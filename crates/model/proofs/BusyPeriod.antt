@@ -1,22 +1,22 @@
 -- One level of the scheduler: the busy period of the priorities 0 to p.
-use mathlib.Core.Path.{_≡_, refl, sym, ap, _∙_}
-use mathlib.Core.Logic.{_≢_, _⊎_, inl, inr}
-use mathlib.Core.Bool.{Bool, true, false, cond}
-use mathlib.Core.Option.{Option, none, some}
+use mathlib.Core.Path.{_≡_, refl, sym, ap}
+use mathlib.Core.Logic.{_⊎_, inl, inr}
+use mathlib.Core.Bool.{Bool, true, false}
+use mathlib.Core.Option.{none}
 use mathlib.Core.List.{List, [], _∷_, _++_}
-use Prim.Native.Nat.{ℕ, zero, suc, _+_, _-_, _*_, _≤_, _<_, min}
-use native.Mathlib.Nat.{le-refl, eq-or-lt-of-le, lt-of-not-le}
+use Prim.Native.Nat.{ℕ, suc, _+_, _-_, _≤_, _<_, min}
+use native.Mathlib.Nat.{le-refl, lt-of-not-le}
 use native.Mathlib.Decide.{decLe, ℕ-discrete}
 use native.Mathlib.Omega.{arith}
 use lib.Dec.{eqb, leb}
-use borrow.Author.Tests.{eq-eqb, ne-eqb, eqb-true, eqb-false, leb-true, leb-false, le-leb, lt-leb}
-use lib.ListN.{length, getD, drop, set, length-set, List·getD-append}
+use borrow.Author.Tests.{eq-eqb, ne-eqb, eqb-true, eqb-false, le-leb, lt-leb}
+use lib.ListN.{length, getD, drop, set, length-set}
 use lib.Seq.{getD-set-same, getD-set-other}
-use Rattle.model.specs.Basics.{provided, Each, done, also}
+use Rattle.model.specs.Basics.{provided, Each}
 use Rattle.model.specs.Units.{occupied}
-use Rattle.model.specs.Machine.{Frame, Sender, idle, sending, Scheduler, Advance, at, advanced, blankFrame, queueOf, headOf, withoutHead, queuedLast, freedIf, byteLeaves, stored, bytes, held}
+use Rattle.model.specs.Machine.{Frame, Sender, idle, sending, Scheduler, at, queueOf, headOf, withoutHead, queuedLast, freedIf, byteLeaves, bytes, held}
 use Rattle.model.proofs.Curves.{occupied-weight}
-use Rattle.model.proofs.Queues.{wireBytes, each-map, each-tail, each-snoc, each-head, bytes-snoc, bytes-tail, bytes-below, sizes-head, sizes-none, up, up-other, up-same, up-one, up-none}
+use Rattle.model.proofs.Queues.{each-tail, each-snoc, each-head, bytes-snoc, bytes-tail, bytes-below, sizes-head, sizes-none, up, up-other, up-same, up-one}
 
 -- ---- what a scheduler is
 

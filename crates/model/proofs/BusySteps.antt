@@ -1,21 +1,21 @@
 -- A tick, many ticks, an arrival: each keeps the scheduler sound and every level.
-use mathlib.Core.Path.{_≡_, refl, sym, ap, _∙_}
-use mathlib.Core.Logic.{_≢_, _⊎_, inl, inr}
-use mathlib.Core.Bool.{Bool, true, false, cond}
+use mathlib.Core.Path.{_≡_, refl, ap}
+use mathlib.Core.Logic.{inl, inr}
+use mathlib.Core.Bool.{Bool, true, false}
 use mathlib.Core.Option.{Option, none, some}
 use mathlib.Core.List.{List, [], _∷_, _++_}
-use Prim.Native.Nat.{ℕ, zero, suc, _+_, _-_, _*_, _≤_, _<_, min}
-use native.Mathlib.Nat.{le-refl, le-trans, eq-or-lt-of-le, lt-of-not-le}
-use native.Mathlib.Decide.{decLe, ℕ-discrete}
+use Prim.Native.Nat.{ℕ, zero, suc, _+_, _-_, _≤_, _<_, min}
+use native.Mathlib.Nat.{le-refl}
+use native.Mathlib.Decide.{ℕ-discrete}
 use native.Mathlib.Omega.{arith}
 use lib.Dec.{eqb, leb}
-use borrow.Author.Tests.{eq-eqb, ne-eqb, eqb-true, eqb-false, leb-true, leb-false, le-leb, lt-leb}
-use lib.ListN.{length, getD, drop, set, length-set, length-append, List·getD-append}
+use borrow.Author.Tests.{eqb-false}
+use lib.ListN.{length, getD, set, length-set, length-append, List·getD-append}
 use lib.Seq.{getD-set-same, getD-set-other}
-use Rattle.model.specs.Basics.{provided, Each, done, also}
+use Rattle.model.specs.Basics.{provided, Each}
 use Rattle.model.specs.Units.{occupied}
-use Rattle.model.specs.Machine.{Frame, Sender, idle, sending, Scheduler, Advance, at, advanced, blankFrame, queueOf, headOf, withoutHead, queuedLast, highestWaiting, startIfAny, started, freedIf, byteLeaves, tick, ticks, stored, bytes, held}
-use Rattle.model.proofs.Queues.{each-map, each-tail, each-snoc, each-head, up, up-none, Waits, waiting-some, waiting-none}
+use Rattle.model.specs.Machine.{Frame, Sender, idle, sending, Scheduler, at, blankFrame, queueOf, headOf, queuedLast, highestWaiting, startIfAny, started, freedIf, byteLeaves, tick, ticks, stored, bytes}
+use Rattle.model.proofs.Queues.{each-map, each-head, up, up-none, Waits, waiting-some, waiting-none}
 use Rattle.model.proofs.BusyPeriod.{Under, Sends, Meets, Sound, part, Before, Level, pop-length, pop-each, put-each, put-each-up, put-bytes, put-up, over, sent}
 
 meets-later : (limit c : ℕ) (f : Frame) → Meets limit c f → Meets limit (suc c) f

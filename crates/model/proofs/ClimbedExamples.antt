@@ -1,8 +1,8 @@
 -- The examples whose holds are reached by climbing: i, j, and the sheet of table E.
-use mathlib.Core.Path.{_≡_, refl, sym, ap, _∙_}
-use mathlib.Core.Bool.{Bool, true, false}
-use mathlib.Core.Option.{Option, none, some}
-use mathlib.Core.List.{List, [], _∷_, _++_, flatMap}
+use mathlib.Core.Path.{_≡_, refl, ap, _∙_}
+use mathlib.Core.Bool.{false}
+use mathlib.Core.Option.{none, some}
+use mathlib.Core.List.{List, _++_, flatMap}
 use Prim.Native.Nat.{ℕ, zero, suc, _<_}
 use native.Mathlib.Omega.{arith}
 use borrow.Author.Tests.{ne-eqb}
@@ -10,7 +10,7 @@ use lib.ListN.{take}
 use Rattle.model.specs.Basics.{provided, sumTo, eight, allHold, firstMet, firstRefusal}
 use Rattle.model.specs.Link.{bagOf, anyOf, sumOver, greatestOver}
 use Rattle.model.specs.Table.{Table, sizeOf, countsInRange, fieldsInRange, notAbove, linksChecks, allAtMost, tableChecks, tableRefusal}
-use Rattle.model.specs.TableFile.{toBytes, recordBytes, countsBody, linkBody, sizesBody, tableBytes, Reading, readTable}
+use Rattle.model.specs.TableFile.{toBytes, recordBytes, countsBody, linkBody, sizesBody, tableBytes, readTable}
 use Rattle.model.specs.Arrival.{frameCurve, onLine, lineCurve, arrivalCurve}
 use Rattle.model.specs.Bounds.{ofPriority, upTo, beyond, upArrivals, blocking, holdOf, boundWithin, isThere, orZero, boundsRefusal, hold, bound}
 use Rattle.model.specs.Sheet.{text, digits, numeral, difference, fill, sheetLine, header, sheetOr, sheet}

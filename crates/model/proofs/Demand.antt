@@ -4,7 +4,7 @@ use mathlib.Core.Logic.{_≢_}
 use mathlib.Core.Bool.{Bool, true, false, cond, _&&_, not}
 use mathlib.Core.Option.{Option, none, some}
 use mathlib.Core.List.{List, [], _∷_, _++_}
-use Prim.Native.Nat.{ℕ, zero, suc, _+_, _-_, _≤_, _<_, max}
+use Prim.Native.Nat.{ℕ, _+_, _-_, _≤_, _<_, max}
 use native.Mathlib.Nat.{le-refl, le-trans}
 use native.Mathlib.Decide.{ℕ-discrete}
 use native.Mathlib.Omega.{arith}
@@ -14,28 +14,28 @@ use lib.ListN.{length, getD, set, replicate}
 use lib.Seq.{getD-set-same, getD-set-other}
 use Rattle.model.specs.Basics.{Each}
 use Rattle.model.specs.Units.{occupied}
-use Rattle.model.specs.Link.{VirtualLink, bag, linkAt, placeOf}
+use Rattle.model.specs.Link.{VirtualLink, bag, linkAt}
 use Rattle.model.specs.Table.{Table, sizeOf}
 use Rattle.model.specs.Bounds.{longest, blocking, orZero, hold, bound}
 use Rattle.model.specs.Machine.{Frame, idle, Scheduler, Departure, queueOf, queuedLast, advance, stored, bytes, held}
-use Rattle.model.specs.Report.{Account, Port, accountAt, markOf, fresh, Report, wait, frame, tickOf, Judged, replenished, charged, withAccount, storedIf, withLineTick, arrived, Call, Stepped}
-use Rattle.model.specs.Run.{Entry, History, run, accepted, frameIf, storedBy, policedBy, droppedBy, passedBy, throughBy, departuresBy, without, withoutAll, andLast, heldFrames, isPriority, hasPriority, only, heldOf, mostHeld, andTick, ticksOf, KeepBagAndJitter, LinkKeeps, Always, start, then, Demand3}
+use Rattle.model.specs.Report.{Account, Port, accountAt, markOf, fresh, Report, wait, frame, tickOf, Judged, charged, withAccount, storedIf, withLineTick, arrived, Call, Stepped}
+use Rattle.model.specs.Run.{Entry, run, accepted, frameIf, storedBy, policedBy, droppedBy, passedBy, throughBy, without, withoutAll, andLast, heldFrames, isPriority, hasPriority, only, heldOf, mostHeld, andTick, ticksOf, KeepBagAndJitter, LinkKeeps, Always, start, then}
 use Rattle.model.specs.Promises.{DemandThree}
 use Rattle.model.proofs.Holds.{hold-is, HasBounds, has-bounds}
 use Rattle.model.proofs.Curves.{occupied-weight}
 use Rattle.model.proofs.Passed.{Passed, passedFrame}
-use Rattle.model.proofs.Gate.{Rising, numbers-apart, gateOf, passedGate, after-set, full-at}
+use Rattle.model.proofs.Gate.{numbers-apart, gateOf, after-set, full-at}
 use Rattle.model.proofs.Keeping.{keeping-before, Paid, paid-start, paid-covers, paid-charged}
 use Rattle.model.proofs.ValidTable.{Valid, valid}
 use Rattle.model.proofs.Queues.{up-none}
-use Rattle.model.proofs.BusyPeriod.{Meets, Sound, Before, over}
+use Rattle.model.proofs.BusyPeriod.{Sound, Before, over}
 use Rattle.model.proofs.BusySteps.{stored-sound}
 use Rattle.model.proofs.Backlog.{level-hold}
 use Rattle.model.proofs.QueueSteps.{advance-clock}
 use Rattle.model.proofs.Ledger.{Booked, booked-put, ticks-booked}
-use Rattle.model.proofs.Stepping.{Admitted, renewed, chargedPort, priorityAt, Judgement, filters, polices, drops, stores, Timely, Arrives, movedTo, freedBy, Stepping, refuses, waits, frames, stepping}
+use Rattle.model.proofs.Stepping.{Admitted, renewed, priorityAt, Judgement, filters, polices, drops, stores, Timely, Arrives, movedTo, freedBy, Stepping, refuses, waits, frames, stepping}
 use Rattle.model.proofs.Log.{entryOf, taken, declined, departures-taken, departures-declined, frame-declined, not-accepted, andPassed, passedFrames}
-use Rattle.model.proofs.Invariant.{AllGood, Ordered, Invariant, moved-ordered, meets-its-queue, grown, step-kept, fresh-kept, empty-queues, no-marks, run-kept}
+use Rattle.model.proofs.Invariant.{Ordered, Invariant, moved-ordered, meets-its-queue, grown, step-kept, fresh-kept, empty-queues, no-marks}
 use Rattle.model.proofs.Levels.{upPassed, ownPassed, Levels, held-bound, advance-levels, lost-levels, stored-levels}
 
 -- ---- departures only lessen what is held

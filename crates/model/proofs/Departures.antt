@@ -18,7 +18,7 @@ use Rattle.model.specs.Promises.{oldest, Leaving, Spaced, over, next}
 use Rattle.model.proofs.Queues.{each-head}
 use Rattle.model.proofs.BusyPeriod.{Under, Sends, Meets, Sound}
 use Rattle.model.proofs.BusySteps.{begins, tick-sound}
-use Rattle.model.proofs.Ledger.{Booked, only-head, same-number, tick-booked, withoutAll-append}
+use Rattle.model.proofs.Ledger.{Booked, only-head, same-number, tick-booked}
 
 pub leaving-append : {t : Table} (l : List Frame) (a b : List Departure) → Leaving t l a → Leaving t (withoutAll a l) b → Leaving t l (a ++ b)
 unfolding withoutAll

@@ -7,7 +7,7 @@ use native.Mathlib.Omega.{arith}
 use lib.Dec.{eqb}
 use lib.ListN.{getD, drop}
 use borrow.Author.Tests.{eqb-true}
-use Rattle.model.specs.Basics.{eight, Each, done, also, provided, sumTo, greatestTo, allTo, allHold, firstFrom, further, firstMet}
+use Rattle.model.specs.Basics.{eight, provided, sumTo, greatestTo, allTo, allHold, firstFrom, further, firstMet}
 use Rattle.model.specs.Units.{occupied}
 use Rattle.model.specs.Link.{bagOf, placeOf, anyOf, sumOver, greatestOver}
 use Rattle.model.specs.Table.{countsInRange, fieldsInRange, notAbove, linksChecks, allAtMost, tableChecks, tableRefusal}
@@ -16,7 +16,7 @@ use Rattle.model.specs.Bounds.{ofPriority, upTo, beyond, ownArrivals, up
 use Rattle.model.specs.TableFile.{tableBytes}
 use Rattle.model.specs.Sheet.{text, sheet}
 use Rattle.model.specs.Machine.{highestWaiting, startIfAny, started, freedIf, byteLeaves, tick, ticks, advance, bytes, framesHeld}
-use Rattle.model.specs.Report.{Answer, fresh, namesLink, framesFit, senderFit, fit, tickOf, frameChecks, reportChecks, reportRefusal, admits, admitted, replenished, charged, hasRoom, storedIf, passedIf, judge, judgeReport, bytesFreed, acceptedOr, step}
+use Rattle.model.specs.Report.{fresh, namesLink, framesFit, senderFit, fit, tickOf, frameChecks, reportChecks, reportRefusal, admits, admitted, replenished, charged, hasRoom, storedIf, passedIf, judge, judgeReport, bytesFreed, acceptedOr, step}
 use Rattle.model.specs.Run.{run}
 use Rattle.model.specs.Examples.{Outcome, Example, gives-bound, gives-hold, lacks-bounds, gives-answers, gives-bags, gives-sheet, outcomes, Correct}
 use Rattle.model.specs.Examples as example

@@ -5,12 +5,11 @@ use mathlib.Core.Option.{Option, none, some}
 use mathlib.Core.List.{List, [], _∷_, _++_, append-assoc, append-nil}
 use Prim.Native.Nat.{ℕ, zero, suc, _≤_, _<_}
 use native.Mathlib.Omega.{arith}
-use lib.Dec.{eqb, ltb}
 use lib.ListN.{length, drop}
 use lib.Seq.{append-snoc}
 use Rattle.model.specs.Basics.{Check, check, firstMet, firstRefusal}
 use Rattle.model.specs.Link.{VirtualLink}
-use Rattle.model.specs.Table.{Table, blankTable, countChecks, linkChecks, linksChecks, sizeChecks, tableRefusal}
+use Rattle.model.specs.Table.{Table, blankTable, linkChecks, linksChecks, tableRefusal}
 use Rattle.model.specs.TableFile.{numberAt, headerChecks, linkRead, sizesRead, countRecordChecks, linkRecordChecks, sizesRecordChecks, Reading, stopOr, readSizes, readLinks, readTable}
 use Rattle.model.proofs.Checks.{Numbered, numbered-append, first-most, first-append, NoneMet, none-append, none-front, none-back, none-met, first-none}
 use Rattle.model.proofs.TableFacts.{Passes, passes-refusal}

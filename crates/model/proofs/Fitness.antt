@@ -1,32 +1,32 @@
 -- Fitness: every list of reports keeps it, so none is refused with 10; and of a fit port an advance frees no more than is held.
 use mathlib.Core.Path.{_≡_, refl, sym, ap, _∙_}
-use mathlib.Core.Bool.{Bool, true, false, not}
+use mathlib.Core.Bool.{true, not}
 use mathlib.Core.List.{List, [], _∷_, _++_}
-use Prim.Native.Nat.{ℕ, zero, suc, _+_, _-_, _*_, _≤_, _<_}
+use Prim.Native.Nat.{ℕ, zero, suc, _+_, _-_, _≤_, _<_}
 use native.Mathlib.Decide.{decLe}
 use native.Mathlib.Omega.{arith}
 use lib.Dec.{eqb, leb, ltb}
-use borrow.Author.Tests.{eq-eqb, eqb-true, le-leb, leb-true, lt-ltb, ltb-true, ltb-false}
+use borrow.Author.Tests.{eq-eqb, eqb-true, le-leb, leb-true, lt-ltb, ltb-true}
 use lib.ListN.{length, getD, List·getD-eq-default}
-use Rattle.model.specs.Basics.{Each, done, check, firstMet}
+use Rattle.model.specs.Basics.{Each, done, check}
 use Rattle.model.specs.Units.{lastTick, occupied, mostFrames}
 use Rattle.model.specs.Link.{bag, linkAt}
 use Rattle.model.specs.Table.{Table, sizeOf, tableRefusal}
 use Rattle.model.specs.Bounds.{upTo, longest}
-use Rattle.model.specs.Machine.{Frame, Sender, idle, sending, Scheduler, queueOf, headOf, advance, ticks, held, framesHeld}
+use Rattle.model.specs.Machine.{Frame, Sender, idle, sending, queueOf, headOf, advance, ticks, held}
 use Rattle.model.specs.Report.{Port, accountAt, markOf, lineTick, framesFit, senderFit, fit, Report, wait, frame, tickOf, reportChecks, frameChecks, roomCheck, reportRefusal, Call, acceptedOr, step}
 use Rattle.model.specs.Run.{Entry, run, Always, start, then}
 use Rattle.model.specs.Promises.{NeverUnfit, NoneAppears}
 use Rattle.model.proofs.Checks.{all-true, true-all, all-to, to-all, first-later, Apart, first-apart}
 use Rattle.model.proofs.Curves.{occupied-weight}
 use Rattle.model.proofs.TokenBucket.{credit-top}
-use Rattle.model.proofs.Gate.{Gate, gateOf, Good}
+use Rattle.model.proofs.Gate.{gateOf, Good}
 use Rattle.model.proofs.ValidTable.{Valid, valid}
-use Rattle.model.proofs.BusyPeriod.{Under, Sends, Meets, Sound}
+use Rattle.model.proofs.BusyPeriod.{Sends, Meets, Sound}
 use Rattle.model.proofs.FramesFreed.{ticks-count}
 use Rattle.model.proofs.Lined.{Lined, lined-fit, fit-lined, lined-count, lined-meets}
 use Rattle.model.proofs.Log.{passedFrames}
-use Rattle.model.proofs.Invariant.{Ordered, Invariant, run-kept}
+use Rattle.model.proofs.Invariant.{Invariant, run-kept}
 
 -- ---- what is kept is fit
 sends-fit : (clock : ℕ) (queues : List (List Frame)) → length queues ≡ 8 → (z : Sender) → Sends clock queues z → senderFit clock queues z ≡ true

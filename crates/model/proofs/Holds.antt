@@ -1,19 +1,19 @@
 -- The hold is the smallest, or there is none; by climbing; and of a table that has bounds each priority has one.
 use mathlib.Core.Path.{_≡_, refl, sym, ap, _∙_}
-use mathlib.Core.Bool.{Bool, true, false, cond, _&&_, not}
+use mathlib.Core.Bool.{Bool, true, false, not}
 use mathlib.Core.Option.{Option, none, some}
 use mathlib.Core.List.{List, [], _∷_, _++_}
-use Prim.Native.Nat.{ℕ, zero, suc, _+_, _-_, _≤_, _<_, max}
-use native.Mathlib.Nat.{le-refl, lt-of-not-le}
+use Prim.Native.Nat.{ℕ, _+_, _-_, _≤_, _<_}
+use native.Mathlib.Nat.{lt-of-not-le}
 use native.Mathlib.Decide.{decLe}
 use native.Mathlib.Omega.{arith}
 use lib.Dec.{T, leb, leb→le}
 use borrow.Author.Tests.{leb-true, leb-false, le-leb, lt-leb, not-false}
-use Rattle.model.specs.Basics.{allTo, firstFrom, Check, check, firstMet}
+use Rattle.model.specs.Basics.{allTo, Check, check, firstMet}
 use Rattle.model.specs.Table.{Table, tableChecks, tableRefusal}
 use Rattle.model.specs.Bounds.{upTo, upArrivals, blocking, holdTest, holdOf, isThere, orZero, boundsRefusal, hold}
 use Rattle.model.specs.Promises.{IsHold, HoldIsSmallest}
-use Rattle.model.proofs.Checks.{all-to, to-all, first-past, none-met, Numbered, numbered-append, none-front, none-back, first-none, NoneMet}
+use Rattle.model.proofs.Checks.{all-to, to-all, first-past, none-met, numbered-append, none-front, none-back, first-none, NoneMet}
 use Rattle.model.proofs.TableFacts.{table-numbered}
 use Rattle.model.proofs.Search.{IsFirst, found-first, found-none, is-first, is-none, climb, climb-below}
 use Rattle.model.proofs.Curves.{curve-grows}

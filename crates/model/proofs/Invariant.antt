@@ -1,10 +1,10 @@
 -- What every list of reports keeps, with bounds or without: the scheduler is sound, the gate is good, the queues are in order,
 -- the marks are within the sizes.
-use mathlib.Core.Path.{_≡_, refl, sym, ap, _∙_}
-use mathlib.Core.Bool.{Bool, true, false, not, _&&_}
-use mathlib.Core.Option.{Option, none, some}
+use mathlib.Core.Path.{_≡_, refl, sym}
+use mathlib.Core.Bool.{Bool, true, not, _&&_}
+use mathlib.Core.Option.{some}
 use mathlib.Core.List.{List, [], _∷_, _++_}
-use Prim.Native.Nat.{ℕ, zero, suc, _+_, _-_, _*_, _≤_, _<_, max}
+use Prim.Native.Nat.{ℕ, zero, suc, _+_, _-_, _≤_, _<_}
 use native.Mathlib.Nat.{le-refl, le-trans}
 use native.Mathlib.Decide.{ℕ-discrete}
 use native.Mathlib.Omega.{arith}
@@ -12,24 +12,24 @@ use lib.Dec.{eqb, leb, lit≤}
 use borrow.Author.Tests.{eq-eqb, le-leb}
 use lib.ListN.{length, getD, set, length-set, replicate}
 use lib.Seq.{getD-set-same, getD-set-other}
-use Rattle.model.specs.Basics.{provided, Each, done}
+use Rattle.model.specs.Basics.{provided, done}
 use Rattle.model.specs.Units.{lastTick, occupied}
 use Rattle.model.specs.Link.{VirtualLink, bag, linkAt, placeOf}
 use Rattle.model.specs.Table.{Table, sizeOf}
 use Rattle.model.specs.Bounds.{ofPriority, longest, orZero}
-use Rattle.model.specs.Machine.{Frame, Scheduler, Departure, queueOf, queuedLast, advance, stored, bytes, held}
+use Rattle.model.specs.Machine.{Frame, queueOf, queuedLast, advance, stored, bytes, held}
 use Rattle.model.specs.Report.{Account, Port, markOf, fresh, namesLink, Report, wait, frame, Judged, judged, charged, storedIf, withLineTick, arrived, Stepped, step, Call}
 use Rattle.model.specs.Run.{Entry, accepted, frameIf, passedBy, run}
 use Rattle.model.specs.Promises.{Weight}
 use Rattle.model.proofs.Checks.{true-all}
-use Rattle.model.proofs.Curves.{occupied-weight, greatest-ge}
+use Rattle.model.proofs.Curves.{greatest-ge}
 use Rattle.model.proofs.Passed.{Passed, passedFrame}
-use Rattle.model.proofs.Gate.{mem-at, Gate, gateOf, raisedGate, policedGate, passedGate, Good, Conforms, after-set, later-good, raise-good, police-good, pass-good, fresh-good}
+use Rattle.model.proofs.Gate.{mem-at, Gate, gateOf, raisedGate, passedGate, Good, later-good, raise-good, police-good, pass-good, fresh-good}
 use Rattle.model.proofs.ValidTable.{Valid}
 use Rattle.model.proofs.BusyPeriod.{Sends, Meets, Sound, put-bytes}
 use Rattle.model.proofs.BusySteps.{stored-sound}
 use Rattle.model.proofs.QueueSteps.{advance-keeps, advance-sound, advance-clock, held-tail}
-use Rattle.model.proofs.Stepping.{Admitted, renewed, chargedPort, priorityAt, Judgement, filters, polices, drops, stores, Timely, Arrives, movedTo, freedBy, Stepping, refuses, waits, frames, stepping}
+use Rattle.model.proofs.Stepping.{Admitted, renewed, priorityAt, Judgement, filters, polices, drops, stores, Timely, Arrives, movedTo, freedBy, Stepping, refuses, waits, frames, stepping}
 use Rattle.model.proofs.Lined.{Lined, over, lined-later, lined-tail, lined-last}
 use Rattle.model.proofs.Log.{entryOf, taken, frame-declined, andPassed, passedFrames}
 

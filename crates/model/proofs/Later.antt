@@ -1,20 +1,20 @@
 -- For the next switch on the way: departures in time and a length apart; what passes of a link keeps BAG and jitter.
 use mathlib.Core.Path.{_≡_, refl, sym, ap, _∙_}
-use mathlib.Core.Bool.{Bool, true, false, _&&_, not}
-use mathlib.Core.Option.{Option, none, some}
+use mathlib.Core.Bool.{true, _&&_, not}
+use mathlib.Core.Option.{none, some}
 use mathlib.Core.List.{List, [], _∷_, _++_, append-nil, append-assoc}
-use Prim.Native.Nat.{ℕ, zero, suc, _+_, _-_, _≤_, _<_}
+use Prim.Native.Nat.{ℕ, _+_, _-_, _≤_, _<_}
 use native.Mathlib.Nat.{le-refl}
 use native.Mathlib.Omega.{arith}
 use lib.Dec.{eqb}
 use lib.ListN.{length, set}
 use Rattle.model.specs.Units.{occupied}
 use Rattle.model.specs.Link.{VirtualLink, bag, linkAt}
-use Rattle.model.specs.Table.{Table, tableRefusal}
+use Rattle.model.specs.Table.{Table}
 use Rattle.model.specs.Bounds.{longest, blocking, hold}
-use Rattle.model.specs.Machine.{Frame, Sender, idle, sending, Scheduler, Departure, Advance, advance, queuedLast, stored}
-use Rattle.model.specs.Report.{Account, Port, accountAt, fresh, Report, wait, frame, Judged, charged, storedIf, withAccount, withLineTick, arrived, Call, Stepped}
-use Rattle.model.specs.Run.{Entry, run, accepted, frameIf, passedBy, departuresBy, heldFrames, ticksOf, KeepBagAndJitter, Always, start, then}
+use Rattle.model.specs.Machine.{Frame, Scheduler, Departure, advance, stored}
+use Rattle.model.specs.Report.{Account, Port, accountAt, fresh, Report, wait, frame, Judged, charged, storedIf, withLineTick, arrived, Call, Stepped}
+use Rattle.model.specs.Run.{Entry, run, accepted, frameIf, passedBy, departuresBy, heldFrames, ticksOf, Always, start, then}
 use Rattle.model.specs.Promises.{Leaving, Spaced, over, next, allDepartures, DeparturesInTime, DeparturesSpaced, PassedKeep}
 use Rattle.model.proofs.Holds.{HasBounds, has-bounds}
 use Rattle.model.proofs.Curves.{occupied-weight}
@@ -23,8 +23,8 @@ use Rattle.model.proofs.Keeping.{Spent, spent-start, spent-policed, spe
 use Rattle.model.proofs.ValidTable.{Valid, valid}
 use Rattle.model.proofs.BusyPeriod.{Sound}
 use Rattle.model.proofs.Backlog.{level-hold}
-use Rattle.model.proofs.Departures.{ticks-leaving, FreeFrom, Apart, ticks-apart}
-use Rattle.model.proofs.Stepping.{Admitted, renewed, Judgement, filters, polices, drops, stores, Timely, Arrives, movedTo, freedBy, Stepping, refuses, waits, frames, stepping}
+use Rattle.model.proofs.Departures.{ticks-leaving, FreeFrom, ticks-apart}
+use Rattle.model.proofs.Stepping.{Admitted, renewed, Judgement, filters, polices, drops, stores, Timely, movedTo, freedBy, Stepping, refuses, waits, frames, stepping}
 use Rattle.model.proofs.Log.{entryOf, taken, declined, departures-taken, departures-declined, frame-declined, passedFrames}
 use Rattle.model.proofs.Invariant.{Invariant, run-kept}
 use Rattle.model.proofs.Levels.{upPassed, ownPassed, Leveled, tick-leveled}

@@ -1,18 +1,18 @@
 -- Entries of a log: what their answers and lists tell of departures and frames.
-use mathlib.Core.Path.{_≡_, refl, sym, ap, _∙_}
-use mathlib.Core.Bool.{Bool, true, false, cond, _&&_, not}
+use mathlib.Core.Path.{_≡_, refl, ap}
+use mathlib.Core.Bool.{Bool, false, not}
 use mathlib.Core.Option.{Option, none, some}
-use mathlib.Core.List.{List, [], _∷_, _++_, flatMap, append-assoc}
-use Prim.Native.Nat.{ℕ, zero, suc, _+_, _*_, _≤_, _<_}
+use mathlib.Core.List.{List, [], _∷_, _++_, flatMap}
+use Prim.Native.Nat.{ℕ, suc, _+_, _*_}
 use native.Mathlib.Omega.{arith}
 use lib.Dec.{eqb}
 use borrow.Author.Tests.{ne-eqb}
-use lib.ListN.{length, getD, drop}
-use Rattle.model.specs.Link.{VirtualLink, linkAt, placeOf}
+use lib.ListN.{length, drop}
+use Rattle.model.specs.Link.{linkAt, placeOf}
 use Rattle.model.specs.Table.{Table}
 use Rattle.model.specs.Bounds.{orZero}
 use Rattle.model.specs.Machine.{Frame, Departure}
-use Rattle.model.specs.Report.{Report, wait, frame, Answer, Stepped, threeNumbers, listed, answered, refusal}
+use Rattle.model.specs.Report.{Report, wait, frame, Stepped, threeNumbers, listed, answered, refusal}
 use Rattle.model.specs.Run.{Entry, accepted, frameIf, passedBy, departuresIn, departuresBy}
 use Rattle.model.proofs.Passed.{Passed, passedFrame}
 

@@ -3,17 +3,17 @@ use mathlib.Core.Path.{_≡_, refl}
 use mathlib.Core.Bool.{Bool, true, false, cond, not}
 use mathlib.Core.Option.{Option, none, some}
 use mathlib.Core.List.{List, [], _∷_, _++_}
-use Prim.Native.Nat.{ℕ, zero, suc, _+_, _*_, _≤_, _<_}
+use Prim.Native.Nat.{ℕ, zero, suc, _+_, _≤_, _<_}
 use native.Mathlib.Omega.{arith}
 use lib.Dec.{eqb, leb, ltb}
 use borrow.Author.Tests.{eqb-true, leb-true, leb-false, ltb-false, not-false}
 use lib.ListN.{length}
-use Rattle.model.specs.Basics.{further, firstMet}
+use Rattle.model.specs.Basics.{further}
 use Rattle.model.specs.Units.{lastTick, leastLength, greatestLength, occupied}
 use Rattle.model.specs.Link.{VirtualLink, bag, linkAt, placeOf}
 use Rattle.model.specs.Table.{Table, sizeOf}
-use Rattle.model.specs.Machine.{Frame, Departure, queueOf, advance, held, framesHeld}
-use Rattle.model.specs.Report.{Account, Port, accountAt, lineTick, fit, Report, wait, frame, tickOf, frameChecks, reportChecks, roomCheck, reportRefusal, Judged, judged, admits, admitted, replenished, charged, withAccount, hasRoom, storedIf, passedIf, judge, Call, Stepped, withScheduler, withLineTick, arrived, judgeReport, listed, answered, refusal, acceptedOr, step}
+use Rattle.model.specs.Machine.{Frame, Departure, queueOf, advance, held}
+use Rattle.model.specs.Report.{Account, Port, accountAt, lineTick, Report, wait, frame, tickOf, frameChecks, reportChecks, roomCheck, reportRefusal, Judged, judged, admits, admitted, replenished, charged, withAccount, hasRoom, storedIf, passedIf, judge, Stepped, withScheduler, withLineTick, arrived, judgeReport, listed, answered, refusal, acceptedOr, step}
 use Rattle.model.proofs.Checks.{all-true, Numbered, NoneMet, none-met}
 
 -- ---- the place of a number

@@ -1,14 +1,14 @@
 -- A table that passes: its links' fields are in range, its numbers rise.
-use mathlib.Core.Path.{_≡_, refl}
+use mathlib.Core.Path.{_≡_}
 use mathlib.Core.Option.{Option, none, some}
-use mathlib.Core.List.{List, [], _∷_, _++_}
+use mathlib.Core.List.{List, [], _∷_}
 use Prim.Native.Nat.{ℕ, zero, suc, _≤_, _<_}
 use native.Mathlib.Omega.{arith}
 use borrow.Author.Tests.{leb-false, not-false}
 use lib.ListN.{length}
 use Rattle.model.specs.Link.{VirtualLink, linkAt}
 use Rattle.model.specs.Table.{Table, sizeOf, fieldsInRange, notAbove, linkChecks, linksChecks, tableRefusal}
-use Rattle.model.proofs.Checks.{NoneMet, none-front, none-back}
+use Rattle.model.proofs.Checks.{NoneMet, none-back}
 use Rattle.model.proofs.TableFacts.{CountsFit, FieldsFit, fields-fit, sizes-fit, Passes, passes, passes-counts}
 use Rattle.model.proofs.Gate.{Rising}
 

@@ -1,6 +1,6 @@
 -- Arrival curves: the most that may arrive in a window of w ticks.
-use mathlib.Core.Bool.{Bool, true, false, _&&_}
-use mathlib.Core.List.{List, [], _∷_}
+use mathlib.Core.Bool.{Bool, _&&_}
+use mathlib.Core.List.{List}
 use Prim.Native.Nat.{ℕ, _+_, _*_, _/_, min}
 use lib.Dec.{eqb}
 use Rattle.model.specs.Basics.{provided, sumTo}

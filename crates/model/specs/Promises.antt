@@ -1,20 +1,19 @@
 -- The theorems, each as a statement. proofs/Theorems.antt proves each under the same name in lower case.
 use mathlib.Core.Path.{_≡_}
-use mathlib.Core.Logic.{_⊎_}
 use mathlib.Core.Bool.{Bool, true, false, cond, not}
 use mathlib.Core.Option.{Option, none, some}
 use mathlib.Core.List.{List, [], _∷_, _++_}
-use Prim.Native.Nat.{ℕ, zero, suc, _+_, _-_, _≤_, _<_}
+use Prim.Native.Nat.{ℕ, _+_, _-_, _≤_, _<_}
 use lib.Dec.{eqb}
 use lib.ListN.{length, getD}
-use Rattle.model.specs.Link.{VirtualLink, bag, linkAt, anyOf}
+use Rattle.model.specs.Link.{VirtualLink, linkAt, anyOf}
 use Rattle.model.specs.Table.{Table, tableRefusal}
-use Rattle.model.specs.TableFile.{tableBytes, Reading, readTable, fileLength}
+use Rattle.model.specs.TableFile.{tableBytes, readTable, fileLength}
 use Rattle.model.specs.Arrival.{arrivalCurve}
 use Rattle.model.specs.Bounds.{ofPriority, upArrivals, blocking, holdOf, backlog, boundsRefusal, hold, bound}
-use Rattle.model.specs.Machine.{Frame, Scheduler, Departure, advance, framesHeld}
+use Rattle.model.specs.Machine.{Frame, Departure, advance, framesHeld}
 use Rattle.model.specs.Report.{Port, fit, Call}
-use Rattle.model.specs.Run.{Entry, run, accepted, passedBy, departuresBy, without, heldFrames, hasPriority, ticksOf, KeepBagAndJitter, Always, Demand3}
+use Rattle.model.specs.Run.{Entry, run, passedBy, departuresBy, without, heldFrames, hasPriority, ticksOf, KeepBagAndJitter, Always, Demand3}
 
 -- "The table file reads and writes by the layout, each undoing the other"
 abbrev pub ReadsWritten : Type 0

@@ -9,7 +9,7 @@ use Rattle.model.specs.Basics.{allTo, allHold, Check, check, firstMet}
 use Rattle.model.specs.Units.{lastTick, leastLength, greatestLength, occupied, mostFrames}
 use Rattle.model.specs.Link.{VirtualLink, bag, linkAt, placeOf}
 use Rattle.model.specs.Table.{Table, sizeOf, tableRefusal}
-use Rattle.model.specs.Machine.{Frame, Sender, idle, sending, Scheduler, Departure, Advance, at, queueOf, headOf, advance, queuedLast, stored, held, framesHeld}
+use Rattle.model.specs.Machine.{Frame, Sender, idle, sending, Scheduler, Departure, at, queueOf, headOf, advance, queuedLast, stored, held, framesHeld}
 
 -- "for each virtual link a credit and its tick": the token bucket of the police check
 pub record Account : Type 0 where

@@ -1,5 +1,5 @@
 -- The printed sheet, as bytes.
-use mathlib.Core.Bool.{Bool, true, false, cond}
+use mathlib.Core.Bool.{cond}
 use mathlib.Core.List.{List, [], _∷_, _++_, flatMap}
 use Prim.Native.Nat.{ℕ, zero, suc, _+_, _-_, _*_, _/_, _%_}
 use Prim.Native.Char.{code}
@@ -8,7 +8,7 @@ use lib.Dec.{eqb, ltb}
 use lib.ListN.{take}
 use Rattle.model.specs.Basics.{eight, firstRefusal}
 use Rattle.model.specs.Table.{Table, sizeOf}
-use Rattle.model.specs.TableFile.{Reading, readTable}
+use Rattle.model.specs.TableFile.{readTable}
 use Rattle.model.specs.Bounds.{boundsRefusal, hold, bound}
 
 -- the bytes of a text

@@ -1,22 +1,22 @@
 -- The answer to a report that is not refused: a wait; a frame whose number no link has; a frame of a link, which is filtered, policed, or dropped or stored.
 use mathlib.Core.Path.{_≡_, refl, sym, ap, _∙_}
 use mathlib.Core.Bool.{true, false, not}
-use mathlib.Core.Option.{Option, none, some}
-use mathlib.Core.List.{List, [], _∷_, _++_, map}
-use Prim.Native.Nat.{ℕ, zero, suc, _+_, _*_, _≤_, _<_}
+use mathlib.Core.Option.{none, some}
+use mathlib.Core.List.{List, map}
+use Prim.Native.Nat.{ℕ, zero, suc, _+_, _≤_, _<_}
 use native.Mathlib.Omega.{arith}
 use borrow.Author.Tests.{eqb-true, not-false}
 use lib.Dec.{leb}
 use lib.ListN.{length, getD, set, drop, length-map, List·getD-map}
 use lib.Seq.{drop-set-lt}
 use Rattle.model.specs.Basics.{entries, check}
-use Rattle.model.specs.Units.{lastTick, leastLength, occupied, mostFrames}
+use Rattle.model.specs.Units.{occupied}
 use Rattle.model.specs.Link.{VirtualLink, linkAt, placeOf}
 use Rattle.model.specs.Table.{Table, sizeOf, tableRefusal}
-use Rattle.model.specs.Machine.{Frame, advance, at, queueOf, held, framesHeld}
+use Rattle.model.specs.Machine.{Frame, advance, at, queueOf, held}
 use Rattle.model.specs.Report.{Port, blankAccount, accountAt, Report, wait, frame, tickOf, fit, reportChecks, reportRefusal, Judged, judged, admits, arrived, withAccount, withLineTick, judgeReport, refusal, acceptedOr, step, Stepped}
 use Rattle.model.proofs.Checks.{all-true, first-zero}
-use Rattle.model.proofs.Stepping.{Timely, Arrives, movedTo, Placed, placed}
+use Rattle.model.proofs.Stepping.{Timely, Arrives, movedTo, placed}
 use Rattle.model.proofs.ValidTable.{Valid}
 use Rattle.model.proofs.Fitness.{Fit}
 use Rattle.table.specs.declared.VirtualLink.{VirtualLink as LinkFields}
@@ -40,7 +40,7 @@ use Rattle.port.specs.declared.Report.the-variants.{Wait, Frame as Frame
 use Rattle.port.specs.declared.charging.Charged.{Charged}
 use Rattle.storing.specs.declared.Settled.{Settled}
 use Rattle.port.specs.View.{tableOf, portOf, reportOf}
-use Rattle.lookup.specs.Places.{Rising, Found}
+use Rattle.lookup.specs.Places.{Found}
 use Rattle.port.specs.Charging.{chargeOf}
 use Rattle.storing.specs.Storing.{verdictIf, Roomy, Settles}
 use Rattle.port.specs.Contracts.{stepOf, Answered}

@@ -4,17 +4,17 @@ use mathlib.Core.List.{List, [], _∷_}
 use Prim.Native.Nat.{ℕ, zero, suc}
 use native.Mathlib.Omega.{arith}
 use Rattle.model.specs.Table.{Table, tableRefusal}
-use Rattle.model.specs.Report.{Port, fresh, Report, Answer, Call, Stepped, step}
-use Rattle.model.specs.Run.{Entry, History, run, Demand3}
+use Rattle.model.specs.Report.{Port, fresh, Report, Answer, Call}
+use Rattle.model.specs.Run.{Entry, run}
 use Rattle.model.proofs.Theorems.{demand-three}
 use Rattle.table.specs.declared.Table.{Table as TableRecord}
 use Rattle.table.specs.View.{viewOf}
 use Rattle.port.specs.declared.Port.{Port as PortRecord}
 use Rattle.port.specs.declared.Answer.{Answer as AnswerRecord}
 use Rattle.port.specs.declared.Fresh.{Fresh as FreshRecord}
-use Rattle.port.specs.View.{tableOf, portOf, freshPort, restingPort}
+use Rattle.port.specs.View.{portOf, freshPort, restingPort}
 use Rattle.port.proofs.FreshPort.{fresh-shown}
-use Rattle.port.specs.Contracts.{freshOr, freshOf, stepOf, Answered}
+use Rattle.port.specs.Contracts.{freshOr, freshOf, Answered}
 use Rattle.port.specs.Calls.{answerOf, Chain, begins, goes-on, DemandThreeOfCalls}
 
 -- the calls that a chain made

@@ -7,9 +7,8 @@ use lib.ListN.{length, replicate, length-map}
 use Rattle.model.specs.Basics.{entries}
 use Rattle.model.specs.Table.{Table, blankTable, tableRefusal}
 use Rattle.model.specs.Report.{Account, Port, blankAccount, fullAccount, fresh}
-use Rattle.table.specs.declared.VirtualLink.{VirtualLink as LinkFields}
 use Rattle.table.specs.declared.Table.{Table as TableRecord}
-use Rattle.table.specs.View.{linkOf, fieldsOf, blankFields, linksOf, viewOf, recordOf}
+use Rattle.table.specs.View.{linksOf, viewOf, recordOf}
 use Rattle.table.proofs.Shape.{count-shown}
 use Rattle.policing.specs.Check.{accountOf, accountRecord}
 use Rattle.policing.specs.Full.{fullAccounts}
@@ -18,7 +17,6 @@ use Rattle.model.proofs.Entries.{entries-blank}
 use Rattle.model.specs.Machine.{Frame}
 use Rattle.scheduler.specs.View.{framesOf, queuesOf, marksOf}
 use Rattle.port.specs.declared.Port.{Port as PortRecord}
-use Rattle.port.specs.declared.Fresh.{Fresh as FreshRecord}
 use Rattle.port.specs.View.{portOf, emptyQueue, restingPort, freshPort, blankPort}
 use Rattle.port.specs.Contracts.{freshOr, freshOf}
 use Rattle.port.specs.Resting.{restingWith}

@@ -1,15 +1,14 @@
 -- The record that the code makes of a report that is not refused, and the port of the model.
-use mathlib.Core.Path.{_≡_, refl, sym, ap, _∙_}
-use mathlib.Core.Option.{Option, none, some}
+use mathlib.Core.Path.{_≡_, sym, ap, _∙_}
 use mathlib.Core.List.{List, [], _∷_, _++_, map}
-use Prim.Native.Nat.{ℕ, zero, suc, _+_, _*_, _≤_, _<_, max}
+use Prim.Native.Nat.{ℕ, zero, suc, _+_, _≤_, _<_, max}
 use native.Mathlib.Omega.{arith}
 use lib.ListN.{length, getD, set, length-map, List·getD-map}
 use lib.Seq.{set-getD, getD-set-same}
 use Rattle.model.specs.Basics.{entries}
 use Rattle.model.specs.Units.{occupied}
 use Rattle.model.specs.Machine.{Frame, Sender, Scheduler, Advance, at, advance, queueOf, queuedLast, bytes, held}
-use Rattle.model.specs.Report.{Account, Port, blankAccount, markOf, Report, wait, frame, tickOf, reportRefusal, withAccount, withLineTick, judgeReport, answered, listed, acceptedOr, step, Stepped}
+use Rattle.model.specs.Report.{Account, Port, blankAccount, wait, frame, withAccount, withLineTick}
 use Rattle.model.proofs.Queues.{bytes-snoc}
 use Rattle.model.proofs.QueueSteps.{advance-clock}
 use Rattle.model.proofs.Stepping.{movedTo}
@@ -22,7 +21,7 @@ use Rattle.scheduler.specs.View.{frameOf, blankQueue, framesOf, queuesOf, marks
 use Rattle.scheduler.specs.Contracts.{advanceOf, Advanced}
 use Rattle.scheduler.proofs.Shown.{queue-shown, queues-set, length-shown}
 use Rattle.port.specs.declared.Port.{Port as PortRecord}
-use Rattle.port.specs.View.{tableOf, portOf}
+use Rattle.port.specs.View.{portOf}
 use Rattle.storing.specs.Storing.{Kept}
 use Rattle.port.proofs.Stores.{entries-set, map-set}
 use Rattle.port.proofs.Judged.{storedBy}

@@ -1,9 +1,9 @@
 -- What stands before a count, where an entry is set.
-use mathlib.Core.Path.{_≡_, refl, sym, ap, _∙_}
+use mathlib.Core.Path.{_≡_, refl, ap}
 use mathlib.Core.List.{List, [], _∷_, map}
-use Prim.Native.Nat.{ℕ, zero, suc, _≤_, _<_}
+use Prim.Native.Nat.{ℕ, zero, suc, _<_}
 use native.Mathlib.Omega.{arith}
-use lib.ListN.{length, getD, set}
+use lib.ListN.{length, set}
 use Rattle.model.specs.Basics.{entries}
 
 pub entries-set {ℓ} : {A : Type ℓ} (b : A) (n : ℕ) (l : List A) (i : ℕ) (x : A) → i < length l → entries b n (set l i x) ≡ set (entries b n l) i x

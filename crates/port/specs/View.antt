@@ -1,15 +1,12 @@
 -- The port record and the port of the model; reports; the fresh record.
-use mathlib.Core.List.{List, [], _∷_, map}
-use Prim.Native.Nat.{ℕ, zero, suc}
+use mathlib.Core.List.{List, [], map}
 use lib.ListN.{replicate}
 use Rattle.model.specs.Basics.{entries}
-use Rattle.model.specs.Link.{VirtualLink}
 use Rattle.model.specs.Table.{Table, blankTable}
 use Rattle.model.specs.Machine.{at}
 use Rattle.model.specs.Report.{Account, Port, blankAccount, fullAccount, Report, wait, frame}
 use Rattle.table.specs.declared.Table.{Table as TableRecord}
 use Rattle.table.specs.View.{linksOf, viewOf, recordOf}
-use Rattle.policing.specs.declared.Account.{Account as AccountRecord}
 use Rattle.policing.specs.Check.{accountOf, accountRecord}
 use Rattle.scheduler.specs.declared.Queue.{Queue}
 use Rattle.scheduler.specs.declared.Sender.the-variants.{Idle}

@@ -1,10 +1,9 @@
 -- What the record reader answers, in the paper's numbers.
-use mathlib.Core.Bool.{Bool, true, false, cond}
-use mathlib.Core.Option.{Option, none, some}
-use mathlib.Core.List.{List, [], _∷_, _++_}
+use mathlib.Core.Bool.{cond}
+use mathlib.Core.Option.{Option, none}
+use mathlib.Core.List.{List, [], _∷_}
 use Prim.Native.Nat.{ℕ, zero, suc, _-_}
 use lib.Dec.{eqb, leb}
-use lib.ListN.{length}
 use Rattle.model.specs.Basics.{firstMet}
 use Rattle.model.specs.Link.{VirtualLink}
 use Rattle.model.specs.TableFile.{numberAt, linkRead, sizesRead, countRecordChecks, linkRecordChecks, sizesRecordChecks}

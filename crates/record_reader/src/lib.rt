@@ -1,5 +1,5 @@
 // Internal to the product: the record reader of the table file: what the bytes not yet read begin with, told what is due.
-pub mod bytes;
+mod bytes;
 
 use numbers::u16_as_usize;
 use table::VirtualLink;

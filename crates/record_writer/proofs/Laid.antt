@@ -1,11 +1,10 @@
 -- Bytes laid down one after another, and in a part that is lent.
-use mathlib.Core.Path.{_≡_, refl, sym, ap, _∙_}
-use mathlib.Core.List.{List, [], _∷_, _++_, append-assoc, append-nil}
-use Prim.Native.Nat.{ℕ, zero, suc, _+_, _-_, _*_, _/_, _%_, _≤_, _<_}
+use mathlib.Core.Path.{_≡_, sym, ap, _∙_}
+use mathlib.Core.List.{List, [], _++_, append-assoc, append-nil}
+use Prim.Native.Nat.{ℕ, _+_, _-_, _≤_}
 use native.Mathlib.Omega.{arith}
 use lib.ListN.{length, take, drop, length-append, length-take, length-drop, drop-of-length-le, take-append-drop}
-use lib.Seq.{length-take-le, take-at, drop-at, take-append-le, drop-append-add, take-append-add, drop-drop, sets, sets-eq, take-all}
-use Rattle.model.specs.TableFile.{toBytes}
+use lib.Seq.{length-take-le, take-at, drop-append-add, drop-drop, sets, sets-eq, take-all}
 use Rattle.record_writer.specs.Output.{laid}
 
 pub length-laid : (at : ℕ) (bytes output : List ℕ) → at + length bytes ≤ length output → length (laid at bytes output) ≡ length output

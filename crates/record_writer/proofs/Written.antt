@@ -1,14 +1,13 @@
 -- The records of a table file as they are laid down.
-use mathlib.Core.Path.{_≡_, refl, sym, ap, _∙_}
-use mathlib.Core.Bool.{true, false}
+use mathlib.Core.Path.{_≡_, refl, ap, _∙_}
 use mathlib.Core.List.{List, [], _∷_, _++_, flatMap, append-assoc, append-nil}
-use Prim.Native.Nat.{ℕ, zero, suc, _+_, _-_, _*_, _≤_, _<_}
+use Prim.Native.Nat.{ℕ, suc, _+_, _-_, _*_, _≤_, _<_}
 use native.Mathlib.Numerals.{add-one}
 use native.Mathlib.Omega.{arith}
 use lib.ListN.{length, getD, take, drop, length-append}
 use lib.Seq.{take-suc, take-all, length-take-le}
 use Rattle.model.specs.Link.{VirtualLink}
-use Rattle.model.specs.TableFile.{toBytes, recordBytes, countsBody, linkBody, sizesBody}
+use Rattle.model.specs.TableFile.{toBytes, recordBytes, countsBody, linkBody}
 use Rattle.model.proofs.FileWrite.{length-record, length-linkBody}
 use Rattle.model.proofs.Lists.{length-flatMap}
 use Rattle.model.proofs.Bytes.{length-toBytes}

@@ -1,5 +1,5 @@
 -- The BAG of each code.
-use mathlib.Core.Path.{_≡_, refl, sym, ap}
+use mathlib.Core.Path.{_≡_, refl, sym}
 use mathlib.Core.Logic.{_≢_}
 use Prim.Native.Nat.{ℕ, zero, suc}
 use Rattle.model.specs.Link.{bagOf}

@@ -1,7 +1,7 @@
 -- The links of a table record, checked one by one.
-use mathlib.Core.Path.{_≡_, refl, sym, ap, _∙_}
+use mathlib.Core.Path.{_≡_, sym, _∙_}
 use mathlib.Core.Bool.{true, false}
-use mathlib.Core.Option.{none, some}
+use mathlib.Core.Option.{none}
 use mathlib.Core.List.{List}
 use Prim.Native.Nat.{ℕ, _+_, _≤_, _<_}
 use native.Mathlib.Omega.{arith}
@@ -17,7 +17,7 @@ use Rattle.table.specs.declared.Table.{Table as TableRecord}
 use Rattle.table.specs.Checks.{previousOf}
 use Rattle.table.specs.View.{linkOf, blankFields, linksOf, viewOf}
 use Rattle.table.proofs.Table.{the-type}
-use Rattle.table.proofs.Shape.{Sized, sized, count-shown, link-shown}
+use Rattle.table.proofs.Shape.{sized, count-shown, link-shown}
 use Rattle.table.proofs.Refusals.{link-stops, link-passes, previous-more, counts-bad, links-bad, sizes-last}
 
 none-left : (lines : ℕ) (t : TableRecord) (previous i : ℕ) → t .count ≤ i → firstMet (linksChecks lines (previousOf i previous) (drop i (linksOf t))) ≡ 0

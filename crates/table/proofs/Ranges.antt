@@ -1,18 +1,17 @@
 -- The tests of counts, fields and sizes, in the order in which the code makes them.
-use mathlib.Core.Path.{_≡_, refl, sym, ap, _∙_}
-use mathlib.Core.Bool.{Bool, true, false, cond, _&&_, not, and-true, and-eq-true-iff}
-use mathlib.Core.Option.{Option, none, some}
-use mathlib.Core.List.{List, [], _∷_, _++_}
+use mathlib.Core.Path.{_≡_, refl}
+use mathlib.Core.Bool.{Bool, true, false, _&&_, and-true, and-eq-true-iff}
+use mathlib.Core.List.{List, [], _∷_}
 use Prim.Native.Nat.{ℕ, zero, suc, _+_, _≤_, _<_}
 use native.Mathlib.Numerals.{add-one}
 use native.Mathlib.Omega.{arith}
 use lib.Dec.{eqb, leb, ltb}
-use borrow.Author.Tests.{leb-true, leb-false, le-leb, lt-leb, lt-ltb, le-ltb, eq-eqb}
+use borrow.Author.Tests.{le-leb, lt-leb, lt-ltb, le-ltb}
 use lib.ListN.{length, getD, take}
 use lib.Seq.{take-all}
-use Rattle.model.specs.Basics.{allHold, Check, check, firstMet}
+use Rattle.model.specs.Basics.{allHold, Check, firstMet}
 use Rattle.model.specs.Link.{VirtualLink}
-use Rattle.model.specs.Table.{countsInRange, countChecks, fieldsInRange, allAtMost, sizeChecks}
+use Rattle.model.specs.Table.{countsInRange, fieldsInRange, allAtMost, sizeChecks}
 
 -- ---- counts
 module _ (lines n : ℕ) where

@@ -1,17 +1,17 @@
 -- The first check that is met, in lists of checks put together.
 use mathlib.Core.Path.{_≡_, refl, sym, ap, _∙_}
-use mathlib.Core.Bool.{Bool, true, false, cond, _&&_, not}
+use mathlib.Core.Bool.{true, false, not}
 use mathlib.Core.Option.{Option, none, some}
-use mathlib.Core.List.{List, [], _∷_, _++_, append-assoc}
+use mathlib.Core.List.{List, _++_}
 use Prim.Native.Nat.{ℕ, zero, suc, _+_, _≤_, _<_}
 use native.Mathlib.Numerals.{add-one}
 use native.Mathlib.Omega.{arith}
 use borrow.Author.Tests.{le-leb, lt-leb}
-use lib.ListN.{length, getD, take, drop}
+use lib.ListN.{length, getD, drop}
 use lib.Seq.{drop-cons}
 use Rattle.model.specs.Basics.{Check, check, firstMet, firstRefusal}
 use Rattle.model.specs.Link.{VirtualLink, blankLink}
-use Rattle.model.specs.Table.{Table, fieldsInRange, notAbove, countsInRange, countChecks, linkChecks, linksChecks, sizeChecks, tableChecks, tableRefusal}
+use Rattle.model.specs.Table.{Table, fieldsInRange, notAbove, countsInRange, linkChecks, linksChecks, sizeChecks, tableChecks, tableRefusal}
 use Rattle.model.proofs.Checks.{Numbered, first-append}
 use Rattle.model.proofs.TableFacts.{links-numbered}
 use Rattle.table.specs.Checks.{previousOf}

@@ -1,21 +1,19 @@
 -- The arrays of a table record have their lengths, and the view goes by their entries.
 use mathlib.Core.Path.{_≡_, refl, sym, ap, _∙_}
 use mathlib.Core.List.{List, [], _∷_, map}
-use Prim.Native.Nat.{ℕ, zero, suc, _+_, _≤_, _<_}
+use Prim.Native.Nat.{ℕ, zero, suc, _≤_, _<_}
 use native.Mathlib.Omega.{arith}
 use lib.ListN.{length, getD, length-map}
 use mir.Val.{Val}
 use denote.Laws.{Is}
-use denote.Shadow.{shadow}
-use denote.Array.{Array, each}
 use denote.Struct.Declared.{row}
 use denote.Struct.Field.{u16-field, u32-field}
 use Rattle.model.specs.Basics.{entries}
-use Rattle.model.specs.Link.{VirtualLink, blankLink}
+use Rattle.model.specs.Link.{blankLink}
 use Rattle.model.proofs.Entries.{length-entries, getD-entries}
 use Rattle.table.specs.declared.VirtualLink.{VirtualLink as LinkFields}
 use Rattle.table.specs.declared.Table.{Table as TableRecord}
-use Rattle.table.specs.View.{linkOf, fieldsOf, blankFields, joined, linksOf, viewOf}
+use Rattle.table.specs.View.{linkOf, blankFields, joined, linksOf}
 use Rattle.table.proofs.VirtualLink.{the-field as link-field}
 use Rattle.table.proofs.Table.{the-type}
 

@@ -1,6 +1,6 @@
 -- The table record of the code and the table of the model: the view of a record, and the record of a table.
 use mathlib.Core.List.{List, [], _∷_, map}
-use Prim.Native.Nat.{ℕ, zero, suc}
+use Prim.Native.Nat.{ℕ}
 use lib.ListN.{length}
 use Rattle.model.specs.Basics.{entries}
 use Rattle.model.specs.Link.{VirtualLink, blankLink}

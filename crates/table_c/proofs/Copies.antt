@@ -2,12 +2,11 @@
 use mathlib.Core.Path.{_≡_, refl, ap, _∙_}
 use mathlib.Core.List.{List}
 use Prim.Native.Nat.{ℕ, zero, suc}
-use native.Mathlib.Omega.{arith}
 use Rattle.model.specs.Table.{Table}
-use Rattle.model.specs.TableFile.{Reading, readTable, Writing, writeTable}
+use Rattle.model.specs.TableFile.{Reading, readTable, Writing}
 use Rattle.table_file.specs.declared.Reading.{Reading as ReadingRecord}
 use Rattle.table_file.specs.declared.Writing.{Writing as WritingRecord}
-use Rattle.table.specs.View.{viewOf, recordOf}
+use Rattle.table.specs.View.{viewOf}
 use Rattle.table_file.specs.Answers.{readingOf}
 use Rattle.table_file.specs.Answers.{Wrote}
 use Rattle.table_file.proofs.Back.{read-shown}

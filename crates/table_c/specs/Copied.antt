@@ -3,7 +3,7 @@ use mathlib.Core.Path.{_≡_}
 use mathlib.Core.List.{List}
 use Prim.Native.Nat.{ℕ, zero, suc}
 use Rattle.model.specs.Table.{Table}
-use Rattle.model.specs.TableFile.{Reading, readTable, Writing, writeTable}
+use Rattle.model.specs.TableFile.{readTable, Writing, writeTable}
 
 -- the writer's answer, or with a refusal of the reader nothing written
 unfoldable pub copyOr : ℕ → Table → List ℕ → Writing

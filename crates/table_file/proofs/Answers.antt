@@ -1,18 +1,18 @@
 -- The answer of the writer.
 use mathlib.Core.Path.{_≡_, refl, sym, ap, _∙_}
-use mathlib.Core.Bool.{Bool, true, false}
+use mathlib.Core.Bool.{false}
 use mathlib.Core.List.{List, [], _∷_, _++_, flatMap}
 use Prim.Native.Nat.{ℕ, zero, suc, _+_, _*_, _≤_, _<_}
 use native.Mathlib.Omega.{arith}
 use lib.Dec.{ltb}
 use borrow.Author.Tests.{lt-ltb, le-ltb, ltb-false}
-use lib.ListN.{length, take, drop, length-append}
+use lib.ListN.{length, drop, length-append}
 use Rattle.model.specs.Basics.{Check, check, firstMet}
 use Rattle.model.specs.Table.{Table, tableChecks, tableRefusal}
-use Rattle.model.specs.TableFile.{recordBytes, countsBody, linkBody, sizesBody, tableBytes, fileLength, Writing, wroteOr, writeTable}
+use Rattle.model.specs.TableFile.{recordBytes, countsBody, sizesBody, tableBytes, fileLength, wroteOr, writeTable}
 use Rattle.model.proofs.Checks.{numbered-append, NoneMet, none-met, none-front, none-back, first-none}
 use Rattle.model.proofs.Lists.{length-flatMap}
-use Rattle.model.proofs.TableFacts.{table-numbered, CountsFit, passes, passes-counts}
+use Rattle.model.proofs.TableFacts.{table-numbered, passes, passes-counts}
 use Rattle.model.proofs.FileWrite.{length-record, length-countsBody, length-sizesBody, length-tableBytes}
 use Rattle.table.specs.declared.Table.{Table as TableRecord}
 use Rattle.table.specs.View.{linksOf, viewOf}

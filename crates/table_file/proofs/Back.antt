@@ -1,16 +1,15 @@
 -- What reader and writer, one after the other, give.
-use mathlib.Core.Path.{_≡_, refl, sym, ap, _∙_}
-use mathlib.Core.List.{List, [], _∷_, _++_, map}
-use Prim.Native.Nat.{ℕ, zero, suc, _+_, _*_, _≤_, _<_}
+use mathlib.Core.Path.{_≡_, sym, ap, _∙_}
+use mathlib.Core.List.{List, _++_}
+use Prim.Native.Nat.{ℕ, _+_, _≤_}
 use native.Mathlib.Decide.{ℕ-discrete}
 use native.Mathlib.Omega.{arith}
 use lib.ListN.{length, take, drop}
 use lib.Seq.{take-at}
 use Rattle.model.specs.Basics.{entries}
-use Rattle.model.specs.Link.{VirtualLink, blankLink}
-use Rattle.model.specs.Table.{Table, blankTable, tableRefusal}
+use Rattle.model.specs.Table.{Table}
 use Rattle.model.specs.TableFile.{tableBytes, fileLength, Writing as ModelWriting, readTable, writeTable}
-use Rattle.model.proofs.TableFacts.{passes, passes-counts, CountsFit}
+use Rattle.model.proofs.TableFacts.{passes, passes-counts}
 use Rattle.model.proofs.FileRead.{refused-blank, read-passes}
 use Rattle.model.proofs.Bytes.{AllBytes}
 use Rattle.model.proofs.FileWrite.{written-length, written-read}

@@ -1,7 +1,6 @@
 // What the reader holds of each record that it takes in, and its answer where it stops.
 use crate::Reading;
 use record_reader::Record;
-use record_reader::bytes;
 use table::Table;
 use table::VirtualLink;
 ghost use mathlib.Core.Path.{_≡_};

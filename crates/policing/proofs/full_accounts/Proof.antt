@@ -8,10 +8,6 @@ use Rattle.table.proofs.Shape.{sized}
 use Rattle.policing.proofs.Full.{bag-most, accountsOf, none-yet, next-account, all-accounts}
 use Rattle.policing.proofs.full_accounts.Statement.{statement}
 use Rattle.policing.proofs.full_accounts.Tie as tie
-use Rattle.policing.proofs.full_accounts.Reads as reads
-use Rattle.policing.proofs.full_accounts.Lts as lts
-use Rattle.numbers.proofs.u32_as_u64.Reads as u32-as-u64-reads
-use Rattle.table.proofs.bag.Reads as bag-reads
 
 abbrev Inv-loop : tie.InvT-loop
 Inv-loop t n accounts₀ i₀ accounts i = (accounts ≡ accountsOf (take i (linksOf t))) × (i ≤ t .count) × (t .count ≤ 256)

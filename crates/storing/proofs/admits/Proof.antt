@@ -1,13 +1,10 @@
-use mathlib.Core.Path.{sym, _∙_}
+use mathlib.Core.Path.{_∙_}
 use native.Mathlib.Omega.{arith}
 use Rattle.table.specs.View.{linkOf}
 use Rattle.storing.proofs.Judging.{other-line, too-short, not-too-long}
 use borrow.Author.Needs.{needs}
 use Rattle.storing.proofs.admits.Statement.{statement}
 use Rattle.storing.proofs.admits.Tie as tie
-use Rattle.storing.proofs.admits.Reads as reads
-use Rattle.storing.proofs.admits.Lts as lts
-use Rattle.numbers.proofs.u8_as_u64.Reads as u8-as-u64-reads
 
 u8-as-u64-requires : tie.Need-u8-as-u64-requires
 u8-as-u64-requires c κs = search needs

@@ -1,8 +1,6 @@
 use Rattle.storing.proofs.Judging.{too-large, room-left}
 use Rattle.storing.proofs.has_room.Statement.{statement}
 use Rattle.storing.proofs.has_room.Tie as tie
-use Rattle.storing.proofs.has_room.Reads as reads
-use Rattle.storing.proofs.has_room.Lts as lts
 
 returns : tie.Need-returns
 returns c = too-large (c .before .args .held) (c .before .args .more) (c .before .args .size) (c .if1 .taken)

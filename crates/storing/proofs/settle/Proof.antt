@@ -4,13 +4,6 @@ use Rattle.storing.proofs.Settling.{settles-not, has-room, has-place, s
 use borrow.Author.Needs.{needs}
 use Rattle.storing.proofs.settle.Statement.{statement}
 use Rattle.storing.proofs.settle.Tie as tie
-use Rattle.storing.proofs.settle.Reads as reads
-use Rattle.storing.proofs.settle.Lts as lts
-use Rattle.storing.proofs.has_room.Reads as has-room-reads
-use Rattle.storing.proofs.stored.Reads as stored-reads
-use Rattle.numbers.proofs.u32_as_u64.Reads as u32-as-u64-reads
-use Rattle.scheduler.proofs.held.Reads as held-reads
-use Rattle.scheduler.proofs.occupancy.Reads as occupancy-reads
 
 held-requires : tie.Need-held-requires
 held-requires c κs = search needs

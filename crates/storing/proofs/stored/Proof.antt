@@ -1,12 +1,7 @@
-use mathlib.Core.Path.{_∙_}
 use Rattle.storing.proofs.Marked.{stored-shown}
 use borrow.Author.Needs.{needs}
 use Rattle.storing.proofs.stored.Statement.{statement}
 use Rattle.storing.proofs.stored.Tie as tie
-use Rattle.storing.proofs.stored.Reads as reads
-use Rattle.storing.proofs.stored.Lts as lts
-use Rattle.storing.proofs.larger.Reads as larger-reads
-use Rattle.scheduler.proofs.pushed.Reads as pushed-reads
 
 pushed-requires : tie.Need-pushed-requires
 pushed-requires c κs = search needs

@@ -4,8 +4,6 @@ use Rattle.model.specs.Link.{bagOf}
 use Rattle.table.proofs.Bags.{bag-at, bag-last}
 use Rattle.table.proofs.bag.Statement.{statement}
 use Rattle.table.proofs.bag.Tie as tie
-use Rattle.table.proofs.bag.Reads as reads
-use Rattle.table.proofs.bag.Lts as lts
 
 returns : tie.Need-returns
 unfolding bagOf

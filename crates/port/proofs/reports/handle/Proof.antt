@@ -2,10 +2,6 @@ use Rattle.port.proofs.Answers.{refuses}
 use borrow.Author.Needs.{needs}
 use Rattle.port.proofs.reports.handle.Statement.{statement}
 use Rattle.port.proofs.reports.handle.Tie as tie
-use Rattle.port.proofs.reports.handle.Reads as reads
-use Rattle.port.proofs.reports.handle.Lts as lts
-use Rattle.port.proofs.refusals.refusal.Reads as refusal-reads
-use Rattle.port.proofs.reports.report.Reads as report-reads
 
 -- src/reports.rt:224:9
 refusal-requires : tie.Need-refusal-requires

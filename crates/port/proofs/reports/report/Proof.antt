@@ -16,17 +16,6 @@ use Rattle.port.proofs.Answers.{NotRefused, is-wait, is-frame, passed, 
 use borrow.Author.Needs.{needs}
 use Rattle.port.proofs.reports.report.Statement.{statement}
 use Rattle.port.proofs.reports.report.Tie as tie
-use Rattle.port.proofs.reports.report.Reads as reads
-use Rattle.port.proofs.reports.report.Lts as lts
-use Rattle.lookup.proofs.place_of.Reads as place-of-reads
-use Rattle.port.proofs.charging.charge_in.Reads as charge-in-reads
-use Rattle.port.proofs.refusals.tick_of.Reads as tick-of-reads
-use Rattle.storing.proofs.admits.Reads as admits-reads
-use Rattle.storing.proofs.arrived.Reads as arrived-reads
-use Rattle.storing.proofs.settle.Reads as settle-reads
-use Rattle.numbers.proofs.u32_as_u64.Reads as u32-as-u64-reads
-use Rattle.scheduler.proofs.advance.Reads as advance-reads
-use Rattle.table.proofs.bag.Reads as bag-reads
 
 -- the record that is handed in
 entire : (c : tie.Start) → Whole (c .args .p)

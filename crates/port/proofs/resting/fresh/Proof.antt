@@ -4,12 +4,6 @@ use Rattle.port.proofs.FreshPort.{fresh-refused, fresh-given}
 use borrow.Author.Needs.{needs}
 use Rattle.port.proofs.resting.fresh.Statement.{statement}
 use Rattle.port.proofs.resting.fresh.Tie as tie
-use Rattle.port.proofs.resting.fresh.Reads as reads
-use Rattle.port.proofs.resting.fresh.Lts as lts
-use Rattle.table.proofs.blank.Reads as blank-reads
-use Rattle.policing.proofs.full_accounts.Reads as full-accounts-reads
-use Rattle.port.proofs.resting.resting_with.Reads as resting-with-reads
-use Rattle.table.proofs.check.Reads as check-reads
 
 -- src/resting.rt:87:9
 check-requires : tie.Need-check-requires
