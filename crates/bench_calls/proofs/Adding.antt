@@ -8,11 +8,11 @@ use lib.Seq.{take-all}
 use Rattle.model.specs.Bounds.{sizing}
 use Rattle.model.specs.TableFile.{Reading, readTable}
 use Rattle.table_file.specs.declared.Reading.{Reading as ReadingRecord}
-use Rattle.table.specs.View.{viewOf}
-use Rattle.table_file.specs.Answers.{readingOf}
+use Rattle.table.specs.View.{viewTable}
+use Rattle.table_file.specs.Answers.{recordReading}
 use Rattle.table_file.proofs.Back.{read-shown}
 use Rattle.bounds.specs.declared.Bounds.{Bounds as BoundsRecord}
-use Rattle.bounds.specs.Answer.{boundsRecord}
+use Rattle.bounds.specs.Answer.{recordBounds}
 use Rattle.bench_calls.specs.Sums.{sum, sizingSum}
 
 pub sum-none : (l : List ℕ) → 0 ≡ sum (take 0 l)
@@ -29,9 +29,9 @@ pub sum-all : (l : List ℕ) (i : ℕ) → length l ≤ i → sum (take i l) ≡
 sum-all l i h = ap sum (take-all i l h)
 
 -- ---- the bounds and holds of a file
-pub sizing-is : (file : List ℕ) (r : ReadingRecord) (s : BoundsRecord) (b h : ℕ) → r ≡ readingOf (readTable file) → s ≡ boundsRecord (sizing (viewOf (r .table)))
+pub sizing-is : (file : List ℕ) (r : ReadingRecord) (s : BoundsRecord) (b h : ℕ) → r ≡ recordReading (readTable file) → s ≡ recordBounds (sizing (viewTable (r .table)))
     → b ≡ sum (s .bounds) → h ≡ sum (s .holds) → b + h ≡ sizingSum (readTable file .table)
 unfolding sizingSum
 sizing-is file r s b h e f p q =
-    let same : viewOf (r .table) ≡ readTable file .table = ap (λ (x : ReadingRecord). viewOf (x .table)) e ∙ read-shown file in
+    let same : viewTable (r .table) ≡ readTable file .table = ap (λ (x : ReadingRecord). viewTable (x .table)) e ∙ read-shown file in
     rw (p, q, f, same)

@@ -22,33 +22,33 @@ use Rattle.model.proofs.TableFacts.{table-numbered}
 use Rattle.model.proofs.ValidTable.{valid}
 use Rattle.model.proofs.Holds.{no-hold, all-holds}
 use Rattle.table.specs.declared.Table.{Table as TableRecord}
-use Rattle.table.specs.View.{linkOf, fieldsOf, blankFields, linksOf, viewOf}
+use Rattle.table.specs.View.{viewLink, recordLink, blankFields, viewLinks, viewTable}
 use Rattle.table.proofs.Shape.{sized, count-shown, link-shown}
 use Rattle.table.proofs.Table.{the-type}
-use Rattle.arrivals.specs.Fit.{FitLink, Fit}
+use Rattle.bounds_arrivals.specs.Fit.{FitLink, Fit}
 use Rattle.bounds.specs.declared.Bounds.{Bounds}
 use Rattle.bounds.specs.declared.limits.Limits.{Limits}
 use Rattle.bounds.specs.Limits.{found, Limited}
-use Rattle.bounds.specs.Answer.{boundsRecord}
+use Rattle.bounds.specs.Answer.{recordBounds}
 use Rattle.bounds.proofs.Climbing.{found-some}
 
 -- ---- a table that meets no check
-module _ (t : TableRecord) (vs : List Val) (good : Is (row the-type) t vs) (e : tableRefusal (viewOf t) ≡ 0) where
+module _ (t : TableRecord) (vs : List Val) (good : Is (row the-type) t vs) (e : tableRefusal (viewTable t) ≡ 0) where
   count-most : t .count ≤ 256
-  unfolding viewOf
-  count-most = omega (arith, valid (viewOf t) e .counts .links-most, count-shown t)
+  unfolding viewTable
+  count-most = omega (arith, valid (viewTable t) e .counts .links-most, count-shown t)
 
-  shown : (i : ℕ) → i < t .count → linkAt (linksOf t) i ≡ linkOf (getD (t .numbers) i 0) (getD (t .links) i blankFields)
+  shown : (i : ℕ) → i < t .count → linkAt (viewLinks t) i ≡ viewLink (getD (t .numbers) i 0) (getD (t .links) i blankFields)
   shown i h = link-shown t i (sized t vs good) h count-most
 
   lines-most : t .lines ≤ 24
-  unfolding viewOf
-  lines-most = valid (viewOf t) e .counts .lines-most
+  unfolding viewTable
+  lines-most = valid (viewTable t) e .counts .lines-most
 
-  view-fits : (i : ℕ) → i < t .count → FitLink (fieldsOf (linkAt (linksOf t) i))
-  unfolding viewOf
+  view-fits : (i : ℕ) → i < t .count → FitLink (recordLink (linkAt (viewLinks t) i))
+  unfolding viewTable
   view-fits i h =
-      let v = valid (viewOf t) e .fields i (omega (arith, count-shown t)) in
+      let v = valid (viewTable t) e .fields i (omega (arith, count-shown t)) in
       let m = lines-most in
       record {
         line = omega (arith, v .line-below);
@@ -64,7 +64,7 @@ module _ (t : TableRecord) (vs : List Val) (good : Is (row the-type) t vs) (e : 
 
 -- ---- the answers
 module _ (t : Table) where
-  refused-is : (n : ℕ) → n ≢ 0 → boundsRefusal t ≡ n → _≡_ {A = Bounds} (record { refused = n; bounds = replicate 8 0; holds = replicate 8 0 }) (boundsRecord (sizing t))
+  refused-is : (n : ℕ) → n ≢ 0 → boundsRefusal t ≡ n → _≡_ {A = Bounds} (record { refused = n; bounds = replicate 8 0; holds = replicate 8 0 }) (recordBounds (sizing t))
   unfolding sizing sizedOr
   refused-is zero z e = absurd (z refl)
   refused-is (suc n) z e = rw e
@@ -75,7 +75,7 @@ module _ (t : Table) where
   first-of (suc n) k z = refl
 
   -- 3 to 6
-  pub table-refused : (n : ℕ) → n ≡ tableRefusal t → n ≢ 0 → (r : Bounds) → r ≡ record { refused = n; bounds = replicate 8 0; holds = replicate 8 0 } → r ≡ boundsRecord (sizing t)
+  pub table-refused : (n : ℕ) → n ≡ tableRefusal t → n ≢ 0 → (r : Bounds) → r ≡ record { refused = n; bounds = replicate 8 0; holds = replicate 8 0 } → r ≡ recordBounds (sizing t)
   unfolding boundsRefusal tableRefusal
   table-refused n e z r q =
       q ∙ refused-is n z (first-append 8 (tableChecks t) _ (table-numbered 8 (omega arith) t) ∙ rw (← e) (first-of n _ z))
@@ -83,7 +83,7 @@ module _ (t : Table) where
   module _ (e : tableRefusal t ≡ 0) where
     -- 8
     pub hold-refused : (p : ℕ) (l : Limits) → p < 8 → Limited t p l → l .hold ≡ 0 → (r : Bounds) → r ≡ record { refused = 8; bounds = replicate 8 0; holds = replicate 8 0 }
-        → r ≡ boundsRecord (sizing t)
+        → r ≡ recordBounds (sizing t)
     unfolding found
     hold-refused p l h d z r q = q ∙ refused-is 8 (λ x. omega arith) (no-hold t e p h (d .hold ∙ ap found z))
 
@@ -137,6 +137,6 @@ module _ (t : Table) where
     unfolding isThere
     there p l = rw (k .hold p l)
 
-    pub all-known : _≡_ {A = Bounds} (record { refused = 0; bounds = bounds; holds = holds }) (boundsRecord (sizing t))
+    pub all-known : _≡_ {A = Bounds} (record { refused = 0; bounds = bounds; holds = holds }) (recordBounds (sizing t))
     unfolding sizing sizedOr
     all-known = rw (all-holds t e there, list-is bounds (bound t) (k .bounds8) bound-is, list-is holds (hold t) (k .holds8) hold-is)

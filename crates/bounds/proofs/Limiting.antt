@@ -13,13 +13,13 @@ use Rattle.model.specs.Promises.{IsHold}
 use Rattle.model.proofs.Curves.{greatest-none}
 use Rattle.model.proofs.Holds.{up-grows}
 use Rattle.table.specs.declared.Table.{Table as TableRecord}
-use Rattle.table.specs.View.{linksOf, viewOf}
+use Rattle.table.specs.View.{viewLinks, viewTable}
 use Rattle.table.proofs.Shape.{count-shown}
-use Rattle.arrivals.specs.Fit.{Fit}
-use Rattle.arrivals.proofs.Fitting.{view-link}
-use Rattle.backlog.specs.Peaks.{Highest}
-use Rattle.backlog.specs.Stretches.{Given}
-use Rattle.backlog.proofs.Highest.{highest-is, highest-first}
+use Rattle.bounds_arrivals.specs.Fit.{Fit}
+use Rattle.bounds_arrivals.proofs.Fitting.{view-link}
+use Rattle.bounds_backlog.specs.Peaks.{Highest}
+use Rattle.bounds_backlog.specs.Stretches.{Given}
+use Rattle.bounds_backlog.proofs.Highest.{highest-is, highest-first}
 use Rattle.bounds.specs.Limits.{Climbed, windowWithin, Limited}
 
 -- ---- a set has a link exactly if its greatest length is not 0
@@ -34,22 +34,22 @@ any-longest s (v ∷ links) f e = go (s v) refl (any-longest s links (λ i l. f 
     go true q ih = rw q (omega (arith, f 0 (omega arith)))
     go false q ih = rw q (omega (arith, ih (rw q at e)))
 
-module _ (t : TableRecord) (p m : ℕ) (q : m ≡ longest (viewOf t) p) where
-  pub none-of : Fit t → m ≡ 0 → anyOf (ofPriority p) (viewOf t .links) ≡ false
-  unfolding longest viewOf
-  none-of f z = go (anyOf (ofPriority p) (linksOf t)) refl
+module _ (t : TableRecord) (p m : ℕ) (q : m ≡ longest (viewTable t) p) where
+  pub none-of : Fit t → m ≡ 0 → anyOf (ofPriority p) (viewTable t .links) ≡ false
+  unfolding longest viewTable
+  none-of f z = go (anyOf (ofPriority p) (viewLinks t)) refl
     where
-      go : (b : Bool) → anyOf (ofPriority p) (linksOf t) ≡ b → b ≡ false
-      go true x = absurd (omega (arith, any-longest (ofPriority p) (linksOf t) (λ i l. view-link t f i (omega (arith, count-shown t)) .least) x))
+      go : (b : Bool) → anyOf (ofPriority p) (viewLinks t) ≡ b → b ≡ false
+      go true x = absurd (omega (arith, any-longest (ofPriority p) (viewLinks t) (λ i l. view-link t f i (omega (arith, count-shown t)) .least) x))
       go false x = refl
 
-  pub some-of : 0 < m → anyOf (ofPriority p) (viewOf t .links) ≡ true
-  unfolding longest viewOf
-  some-of z = go (anyOf (ofPriority p) (linksOf t)) refl
+  pub some-of : 0 < m → anyOf (ofPriority p) (viewTable t .links) ≡ true
+  unfolding longest viewTable
+  some-of z = go (anyOf (ofPriority p) (viewLinks t)) refl
     where
-      go : (b : Bool) → anyOf (ofPriority p) (linksOf t) ≡ b → b ≡ true
+      go : (b : Bool) → anyOf (ofPriority p) (viewLinks t) ≡ b → b ≡ true
       go true x = refl
-      go false x = absurd (omega (arith, greatest-none (ofPriority p) (λ v. v .greatest) (linksOf t) x))
+      go false x = absurd (omega (arith, greatest-none (ofPriority p) (λ v. v .greatest) (viewLinks t) x))
 
 -- ---- the three cases
 module _ (t : Table) (p : ℕ) where

@@ -2,5 +2,5 @@
 use Rattle.model.specs.Bounds.{Sizing}
 use Rattle.bounds.specs.declared.Bounds.{Bounds}
 
-abbrev pub boundsRecord : Sizing → Bounds
-boundsRecord s = record { refused = s .refused; bounds = s .bounds; holds = s .holds }
+abbrev pub recordBounds : Sizing → Bounds
+recordBounds s = record { refused = s .refused; bounds = s .bounds; holds = s .holds }

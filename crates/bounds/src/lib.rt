@@ -6,8 +6,8 @@ use table::Table;
 ghost use mathlib.Core.Path.{_≡_};
 ghost use lib.ListN.{replicate};
 ghost use Rattle.model.specs.Bounds.{sizing};
-ghost use Rattle.table.specs.View.{viewOf};
-ghost use Rattle.bounds.specs.Answer.{boundsRecord};
+ghost use Rattle.table.specs.View.{viewTable};
+ghost use Rattle.bounds.specs.Answer.{recordBounds};
 
 // The number of a refusal and no bounds, all of which are 0; or 0 and eight of each, priority 0 first.
 pub struct Bounds {
@@ -28,7 +28,7 @@ fn refused(number: u32) -> Bounds
 
 // The bounds and holds of a table, or the refusal: 3 to 6, or 8 where a priority has no hold.
 pub fn bounds_of(t: Table) -> Bounds
-    ensures { λ r. ⌜ r ≡ boundsRecord (sizing (viewOf t)) ⌝ }
+    ensures { λ r. ⌜ r ≡ recordBounds (sizing (viewTable t)) ⌝ }
 {
     let number = table::check(t);
     if number != 0 {

@@ -2,8 +2,8 @@
 use crate::busy;
 use table::Table;
 ghost use Prim.Native.Nat.{_≤_};
-ghost use Rattle.table.specs.View.{viewOf};
-ghost use Rattle.arrivals.specs.Fit.{Fit};
+ghost use Rattle.table.specs.View.{viewTable};
+ghost use Rattle.bounds_arrivals.specs.Fit.{Fit};
 ghost use Rattle.bounds.specs.Limits.{Limited};
 
 // A hold of 0 is none.
@@ -15,7 +15,7 @@ pub struct Limits {
 
 pub(crate) fn limits_of(t: Table, p: u8) -> Limits
     requires { ⌜ Fit t × (p ≤ 7) ⌝ }
-    ensures { λ r. ⌜ Limited (viewOf t) p r ⌝ }
+    ensures { λ r. ⌜ Limited (viewTable t) p r ⌝ }
 {
     let b = busy::blocking_of(t, p);
     let hold = busy::hold_of(t, p, b);
@@ -26,7 +26,7 @@ pub(crate) fn limits_of(t: Table, p: u8) -> Limits
             window: 0,
         };
     }
-    let m = arrivals::longest(t, p, p);
+    let m = bounds_arrivals::longest(t, p, p);
     if m == 0 {
         return Limits {
             hold: hold as u32,
@@ -34,7 +34,7 @@ pub(crate) fn limits_of(t: Table, p: u8) -> Limits
             window: 0,
         };
     }
-    let peak = backlog::peak_of(t, p, b, m, hold - 1);
+    let peak = bounds_backlog::peak_of(t, p, b, m, hold - 1);
     Limits {
         hold: hold as u32,
         bound: peak.backlog as u32,

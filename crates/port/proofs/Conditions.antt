@@ -13,17 +13,17 @@ use Rattle.model.specs.Machine.{queueOf, held}
 use Rattle.model.specs.Report.{framesFit, senderFit, fit}
 use Rattle.model.proofs.Checks.{all-true, true-all}
 use Rattle.table.specs.declared.Table.{Table as TableRecord}
-use Rattle.table.specs.View.{viewOf}
+use Rattle.table.specs.View.{viewTable}
 use Rattle.table.proofs.Shape.{count-shown}
-use Rattle.scheduler.specs.declared.Queue.{Queue}
-use Rattle.scheduler.specs.View.{queuesOf, marksOf, senderOf}
+use Rattle.port_scheduler.specs.declared.Queue.{Queue}
+use Rattle.port_scheduler.specs.View.{viewQueues, viewMarks, viewSender}
 use Rattle.port.specs.declared.Port.{Port as PortRecord}
-use Rattle.port.specs.View.{tableOf, portOf}
-use Rattle.fitness.specs.Conditions.{linesFit, ticksFit, creditsFit}
-use Rattle.queue_fitness.specs.declared.Fitness.{Fitness}
-use Rattle.queue_fitness.specs.Queues.{queuesFit, Told}
+use Rattle.port.specs.View.{viewPortTable, viewPort}
+use Rattle.port_fitness.specs.Conditions.{linesFit, ticksFit, creditsFit}
+use Rattle.port_queue_fitness.specs.declared.Fitness.{Fitness}
+use Rattle.port_queue_fitness.specs.Queues.{queuesFit, Told}
 use Rattle.port.specs.Fitness.{conditions, Tested}
-use Rattle.fitness.proofs.All.{not-both, same-truth, all-four, any-false}
+use Rattle.port_fitness.proofs.All.{not-both, same-truth, all-four, any-false}
 
 -- four conditions are one
 grouped : (a b c d e f g h i j q : Bool) → q ≡ allHold (c ∷ d ∷ e ∷ f ∷ []) →
@@ -42,46 +42,46 @@ grouped a b c d e f g h i j q x =
 queues-parts : (t : TableRecord) (clock : ℕ) (queues : List Queue) →
     queuesFit t clock queues
     ≡ allHold (
-    allTo (λ p. leb (length (queueOf (queuesOf queues) p)) mostFrames) 8
-    ∷ allTo (λ p. framesFit (viewOf t) p clock 0 (queueOf (queuesOf queues) p)) 8
-    ∷ allTo (λ p. leb (held (queueOf (queuesOf queues) p)) (getD (marksOf queues) p 0)) 8
-    ∷ allTo (λ p. leb (getD (marksOf queues) p 0) (getD (t .sizes) p 0)) 8
+    allTo (λ p. leb (length (queueOf (viewQueues queues) p)) mostFrames) 8
+    ∷ allTo (λ p. framesFit (viewTable t) p clock 0 (queueOf (viewQueues queues) p)) 8
+    ∷ allTo (λ p. leb (held (queueOf (viewQueues queues) p)) (getD (viewMarks queues) p 0)) 8
+    ∷ allTo (λ p. leb (getD (viewMarks queues) p 0) (getD (t .sizes) p 0)) 8
     ∷ []
     )
 queues-parts t clock queues =
     all-four
-    (λ p. leb (length (queueOf (queuesOf queues) p)) mostFrames)
-    (λ p. framesFit (viewOf t) p clock 0 (queueOf (queuesOf queues) p))
-    (λ p. leb (held (queueOf (queuesOf queues) p)) (getD (marksOf queues) p 0))
-    (λ p. leb (getD (marksOf queues) p 0) (getD (t .sizes) p 0))
+    (λ p. leb (length (queueOf (viewQueues queues) p)) mostFrames)
+    (λ p. framesFit (viewTable t) p clock 0 (queueOf (viewQueues queues) p))
+    (λ p. leb (held (queueOf (viewQueues queues) p)) (getD (viewMarks queues) p 0))
+    (λ p. leb (getD (viewMarks queues) p 0) (getD (t .sizes) p 0))
     8
 
 module _ (p : PortRecord) where
-  fit-shown : fit (tableOf p) (portOf p) ≡ allHold (conditions p)
-  unfolding fit portOf viewOf conditions
+  fit-shown : fit (viewPortTable p) (viewPort p) ≡ allHold (conditions p)
+  unfolding fit viewPort viewTable conditions
   fit-shown = rw (count-shown (p .table)) (grouped _ _ _ _ _ _ _ _ _ _ _ (queues-parts (p .table) (p .clock) (p .queues)))
 
-  fails : (i : ℕ) → getD (conditions p) i true ≡ false → false ≡ fit (tableOf p) (portOf p)
+  fails : (i : ℕ) → getD (conditions p) i true ≡ false → false ≡ fit (viewPortTable p) (viewPort p)
   fails i e = any-false (conditions p) i e ∙ sym fit-shown
 
   -- ---- a record that is not fit
   module _ (r : Fitness) (e : r .fits ≡ false) where
-    unfit-tested : false ≡ fit (tableOf p) (portOf p) → Tested p r
+    unfit-tested : false ≡ fit (viewPortTable p) (viewPort p) → Tested p r
     unfit-tested x = record { fits-is = e ∙ x; counted = λ y. not-both y e }
 
-    pub table-refused : {n : ℕ} → n ≡ tableRefusal (viewOf (p .table)) → (n ≡ 0 → ⊥) → Tested p r
+    pub table-refused : {n : ℕ} → n ≡ tableRefusal (viewTable (p .table)) → (n ≡ 0 → ⊥) → Tested p r
     unfolding conditions
-    table-refused x y = unfit-tested (fails 0 (ne-eqb (tableRefusal (viewOf (p .table))) 0 (λ z. y (x ∙ z))))
+    table-refused x y = unfit-tested (fails 0 (ne-eqb (tableRefusal (viewTable (p .table))) 0 (λ z. y (x ∙ z))))
 
     pub clock-late : lastTick < p .clock → Tested p r
     unfolding conditions
     clock-late h = unfit-tested (fails 1 (lt-leb (p .clock) lastTick h))
 
-    pub queues-unfit : false ≡ allHold (queuesFit (p .table) (p .clock) (p .queues) ∷ senderFit (p .clock) (queuesOf (p .queues)) (senderOf (p .sender)) ∷ []) → Tested p r
+    pub queues-unfit : false ≡ allHold (queuesFit (p .table) (p .clock) (p .queues) ∷ senderFit (p .clock) (viewQueues (p .queues)) (viewSender (p .sender)) ∷ []) → Tested p r
     unfolding conditions
-    queues-unfit x = unfit-tested (go (fit (tableOf p) (portOf p)) refl)
+    queues-unfit x = unfit-tested (go (fit (viewPortTable p) (viewPort p)) refl)
       where
-        go : (b : Bool) → fit (tableOf p) (portOf p) ≡ b → false ≡ b
+        go : (b : Bool) → fit (viewPortTable p) (viewPort p) ≡ b → false ≡ b
         go false y = refl
         go true y =
             let all = all-true (conditions p) (sym fit-shown ∙ y) in
@@ -92,7 +92,7 @@ module _ (p : PortRecord) where
     lines-unfit x = unfit-tested (fails 3 (sym x))
 
   -- ---- the accounts decide
-  module _ (a : tableRefusal (viewOf (p .table)) ≡ 0) (b : p .clock ≤ lastTick) {q : Fitness} (told : Told (p .table) (p .clock) (p .queues) (p .sender) q) (yes : q .fits ≡ true)
+  module _ (a : tableRefusal (viewTable (p .table)) ≡ 0) (b : p .clock ≤ lastTick) {q : Fitness} (told : Told (p .table) (p .clock) (p .queues) (p .sender) q) (yes : q .fits ≡ true)
       (c : true ≡ linesFit (p .«line_ticks») (p .table .lines) (p .clock)) where
     pub accounts-decide : (f : Bool) → f ≡ allHold (ticksFit (p .accounts) (p .table .count) (p .clock) ∷ creditsFit (p .accounts) (p .table) ∷ [])
         → Tested p (record { fits = f; frames = q .frames })
@@ -107,10 +107,10 @@ module _ (p : PortRecord) where
               let accounts = all-true _ y in
               fit-shown
               ∙ true-all (conditions p) (
-                eq-eqb (tableRefusal (viewOf (p .table))) 0 a,
+                eq-eqb (tableRefusal (viewTable (p .table))) 0 a,
                 (le-leb (p .clock) lastTick b, (two .0, (sym c, (accounts .0, (accounts .1 .0, (two .1 .0, tt)))))),
               ))
-              (λ (y : fit (tableOf p) (portOf p) ≡ true).
+              (λ (y : fit (viewPortTable p) (viewPort p) ≡ true).
               let all = all-true (conditions p) (sym fit-shown ∙ y) in
               true-all _ (all .1 .1 .1 .1 .0, (all .1 .1 .1 .1 .1 .0, tt)));
           counted = λ y. told .counted yes;

@@ -14,8 +14,8 @@ use Rattle.model.specs.Machine.{framesHeld}
 use Rattle.model.specs.Report.{Port, lineTick, fit, Report, wait, frame, tickOf, frameChecks, reportChecks, roomCheck, reportRefusal}
 use Rattle.model.proofs.Checks.{true-all, first-here, first-later, Numbered, first-none, first-append}
 use Rattle.port.specs.Refusals.{Lines}
-use Rattle.fitness.proofs.All.{any-false}
-use Rattle.fitness.proofs.Entries.{entry-shown}
+use Rattle.port_fitness.proofs.All.{any-false}
+use Rattle.port_fitness.proofs.Entries.{entry-shown}
 
 -- ---- 13 to 15
 module _ (t : Table) (s : Port) {r : Report} where

@@ -7,8 +7,8 @@ use denote.Laws.{Is}
 use denote.Struct.Declared.{row}
 use denote.Struct.Field.{u64-field}
 use Rattle.table.proofs.Shape.{Sized, sized}
-use Rattle.scheduler.proofs.Queue.{the-field as queue-field}
-use Rattle.policing.proofs.Account.{the-field as account-field}
+use Rattle.port_scheduler.proofs.Queue.{the-field as queue-field}
+use Rattle.port_policing.proofs.Account.{the-field as account-field}
 use Rattle.port.specs.declared.Port.{Port as PortRecord}
 use Rattle.port.proofs.Port.{the-type}
 

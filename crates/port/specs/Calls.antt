@@ -6,27 +6,27 @@ use Rattle.model.specs.Bounds.{boundsRefusal}
 use Rattle.model.specs.Report.{Report, Answer}
 use Rattle.model.specs.Run.{Entry, Demand3}
 use Rattle.table.specs.declared.Table.{Table as TableRecord}
-use Rattle.table.specs.View.{viewOf}
+use Rattle.table.specs.View.{viewTable}
 use Rattle.port.specs.declared.Port.{Port as PortRecord}
 use Rattle.port.specs.declared.Answer.{Answer as AnswerRecord}
 use Rattle.port.specs.declared.Fresh.{Fresh as FreshRecord}
-use Rattle.port.specs.View.{portOf}
-use Rattle.port.specs.Contracts.{freshOf, Answered}
+use Rattle.port.specs.View.{viewPort}
+use Rattle.port.specs.Contracts.{recordFresh, Answered}
 
 -- the numbers of an answer record
-abbrev pub answerOf : AnswerRecord → Answer
-answerOf a = record { refused = a .refused; verdict = a .verdict; frames = a .frames; bytes = a .bytes }
+abbrev pub viewAnswer : AnswerRecord → Answer
+viewAnswer a = record { refused = a .refused; verdict = a .verdict; frames = a .frames; bytes = a .bytes }
 
 -- a chain of calls on a table, with the port record handed back last and the log, the latest first
 pub data Chain (t : TableRecord) : PortRecord → List Entry → Type 0 where
   -- `fresh` gave a port
-  begins : {f : FreshRecord} → f ≡ freshOf t → f .refused ≡ 0 → Chain t (f .port) []
+  begins : {f : FreshRecord} → f ≡ recordFresh t → f .refused ≡ 0 → Chain t (f .port) []
   -- `frame` or `wait`, of the port that the call before handed back, answered as its contract says; the lent list held
   -- anything before, and its numbers afterwards
   goes-on : {p : PortRecord} {log : List Entry} {a : AnswerRecord} (r : Report) (before after : List ℕ) → Chain t p log → Answered p r before after a
-      → Chain t (a .port) (record { report = r; answer = answerOf a; list = after } ∷ log)
+      → Chain t (a .port) (record { report = r; answer = viewAnswer a; list = after } ∷ log)
 
 -- demand 3 of every chain whose table has bounds
 abbrev pub DemandThreeOfCalls : Type 0
-DemandThreeOfCalls = (t : TableRecord) → boundsRefusal (viewOf t) ≡ 0 → (p : PortRecord) (log : List Entry) → Chain t p log
-    → Demand3 (viewOf t) (record { port = portOf p; log = log })
+DemandThreeOfCalls = (t : TableRecord) → boundsRefusal (viewTable t) ≡ 0 → (p : PortRecord) (log : List Entry) → Chain t p log
+    → Demand3 (viewTable t) (record { port = viewPort p; log = log })

@@ -4,9 +4,9 @@ use Prim.Native.Nat.{ℕ}
 use lib.ListN.{getD, set}
 use Rattle.model.specs.Link.{VirtualLink}
 use Rattle.model.specs.Report.{blankAccount}
-use Rattle.policing.specs.declared.Account.{Account as AccountRecord}
-use Rattle.policing.specs.declared.Checked.{Checked}
-use Rattle.policing.specs.Check.{accountRecord, checkOf}
+use Rattle.port_policing.specs.declared.Account.{Account as AccountRecord}
+use Rattle.port_policing.specs.declared.Checked.{Checked}
+use Rattle.port_policing.specs.Check.{recordAccount, checkOf}
 use Rattle.port.specs.declared.Port.{Port as PortRecord}
 use Rattle.port.specs.declared.charging.Charged.{Charged}
 
@@ -20,4 +20,4 @@ abbrev pub chargedAt : PortRecord → ℕ → Checked → Charged
 chargedAt p i c = record { passed = c .passed; port = withAccounts p (set (p .accounts) i (c .account)) }
 
 abbrev pub chargeOf : VirtualLink → PortRecord → ℕ → ℕ → Charged
-chargeOf v p i time = chargedAt p i (checkOf v (getD (p .accounts) i (accountRecord blankAccount)) time)
+chargeOf v p i time = chargedAt p i (checkOf v (getD (p .accounts) i (recordAccount blankAccount)) time)

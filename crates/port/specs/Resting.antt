@@ -2,8 +2,8 @@
 use mathlib.Core.List.{List}
 use lib.ListN.{replicate}
 use Rattle.table.specs.declared.Table.{Table as TableRecord}
-use Rattle.policing.specs.declared.Account.{Account as AccountRecord}
-use Rattle.scheduler.specs.declared.Sender.the-variants.{Idle}
+use Rattle.port_policing.specs.declared.Account.{Account as AccountRecord}
+use Rattle.port_scheduler.specs.declared.Sender.the-variants.{Idle}
 use Rattle.port.specs.declared.Port.{Port as PortRecord}
 use Rattle.port.specs.View.{emptyQueue}
 

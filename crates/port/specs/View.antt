@@ -6,32 +6,32 @@ use Rattle.model.specs.Table.{Table, blankTable}
 use Rattle.model.specs.Machine.{at}
 use Rattle.model.specs.Report.{Account, Port, blankAccount, fullAccount, Report, wait, frame}
 use Rattle.table.specs.declared.Table.{Table as TableRecord}
-use Rattle.table.specs.View.{linksOf, viewOf, recordOf}
-use Rattle.policing.specs.Check.{accountOf, accountRecord}
-use Rattle.scheduler.specs.declared.Queue.{Queue}
-use Rattle.scheduler.specs.declared.Sender.the-variants.{Idle}
-use Rattle.scheduler.specs.View.{blankEntry, queuesOf, marksOf, senderOf}
+use Rattle.table.specs.View.{viewLinks, viewTable, recordTable}
+use Rattle.port_policing.specs.Check.{viewAccount, recordAccount}
+use Rattle.port_scheduler.specs.declared.Queue.{Queue}
+use Rattle.port_scheduler.specs.declared.Sender.the-variants.{Idle}
+use Rattle.port_scheduler.specs.View.{blankEntry, viewQueues, viewMarks, viewSender}
 use Rattle.port.specs.declared.Port.{Port as PortRecord}
 use Rattle.port.specs.declared.Report.{Report as ReportRecord}
 use Rattle.port.specs.declared.Report.the-variants.{Wait, Frame}
 
 -- the table of a port record, and its state: what stands before the counts
-abbrev pub tableOf : PortRecord → Table
-tableOf p = viewOf (p .table)
+abbrev pub viewPortTable : PortRecord → Table
+viewPortTable p = viewTable (p .table)
 
-unfoldable pub portOf : PortRecord → Port
-portOf p =
+unfoldable pub viewPort : PortRecord → Port
+viewPort p =
     record {
-      scheduler = at (p .clock) (queuesOf (p .queues)) (senderOf (p .sender));
-      marks = marksOf (p .queues);
+      scheduler = at (p .clock) (viewQueues (p .queues)) (viewSender (p .sender));
+      marks = viewMarks (p .queues);
       lineTicks = entries 0 (p .table .lines) (p .«line_ticks»);
-      accounts = entries blankAccount (p .table .count) (map accountOf (p .accounts));
+      accounts = entries blankAccount (p .table .count) (map viewAccount (p .accounts));
     }
 
 -- each case of the enum
-abbrev pub reportOf : ReportRecord → Report
-reportOf (Wait time) = wait time
-reportOf (Frame time line number len) = frame time line number len
+abbrev pub viewReport : ReportRecord → Report
+viewReport (Wait time) = wait time
+viewReport (Frame time line number len) = frame time line number len
 
 -- ---- the fresh record
 abbrev pub emptyQueue : Queue
@@ -46,12 +46,12 @@ restingPort t accounts =
       queues = replicate 8 emptyQueue;
       sender = Idle;
       «line_ticks» = replicate 24 0;
-      accounts = entries (accountRecord blankAccount) 256 (map accountRecord accounts);
+      accounts = entries (recordAccount blankAccount) 256 (map recordAccount accounts);
     }
 
 unfoldable pub freshPort : TableRecord → PortRecord
-freshPort t = restingPort t (map fullAccount (linksOf t))
+freshPort t = restingPort t (map fullAccount (viewLinks t))
 
 -- "no fresh port": its table meets 3, so it is refused with 10
 unfoldable pub blankPort : PortRecord
-blankPort = restingPort (recordOf blankTable) []
+blankPort = restingPort (recordTable blankTable) []

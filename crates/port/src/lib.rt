@@ -4,13 +4,13 @@ mod refusals;
 mod reports;
 mod resting;
 
-use policing::Account;
-use scheduler::Queue;
-use scheduler::Sender;
+use port_policing::Account;
+use port_scheduler::Queue;
+use port_scheduler::Sender;
 use table::Table;
 ghost use mathlib.Core.Path.{_≡_};
 ghost use Rattle.model.specs.Report.{frame as frameReport, wait as waitReport};
-ghost use Rattle.port.specs.Contracts.{freshOf, Answered};
+ghost use Rattle.port.specs.Contracts.{recordFresh, Answered};
 
 pub struct Port {
     pub table: Table,
@@ -46,7 +46,7 @@ pub struct Fresh {
 impl Port {
     // The fresh port of a table; or the refusal, 3 to 6.
     pub fn fresh(table: Table) -> Fresh
-        ensures { λ r. ⌜ r ≡ freshOf table ⌝ }
+        ensures { λ r. ⌜ r ≡ recordFresh table ⌝ }
     {
         resting::fresh(table)
     }

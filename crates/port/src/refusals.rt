@@ -2,17 +2,17 @@
 use crate::Port;
 use crate::Report;
 use numbers::u16_as_u64;
-use queue_fitness::Fitness;
+use port_queue_fitness::Fitness;
 ghost use mathlib.Core.Path.{_≡_};
 ghost use Rattle.model.specs.Basics.{firstMet};
 ghost use Rattle.model.specs.Table.{Table as TableOf};
 ghost use Rattle.model.specs.Report.{Port as PortOf, tickOf, frameChecks, reportRefusal};
-ghost use Rattle.port.specs.View.{tableOf, portOf, reportOf};
+ghost use Rattle.port.specs.View.{viewPortTable, viewPort, viewReport};
 ghost use Rattle.port.specs.Fitness.{Tested};
 ghost use Rattle.port.specs.Refusals.{Clocked, Lines};
 
 pub(crate) fn tick_of(report: Report) -> u64
-    ensures { λ r. ⌜ r ≡ tickOf (reportOf report) ⌝ }
+    ensures { λ r. ⌜ r ≡ tickOf (viewReport report) ⌝ }
 {
     match report {
         Report::Wait(time) => time,
@@ -23,7 +23,7 @@ pub(crate) fn tick_of(report: Report) -> u64
 // 13 to 15, of a frame report alone.
 fn frame_refusal(ticks: [u64; 24], lines: u16, report: Report) -> u32
     requires { ⌜ Clocked ticks lines ⌝ }
-    ensures { λ r. ⌜ ((t : TableOf) (s : PortOf) → Lines ticks lines t s → r ≡ firstMet (frameChecks t s (reportOf report))) ⌝ }
+    ensures { λ r. ⌜ ((t : TableOf) (s : PortOf) → Lines ticks lines t s → r ≡ firstMet (frameChecks t s (viewReport report))) ⌝ }
 {
     let Report::Frame(time, line, _, length) = report else {
         return 0;
@@ -50,32 +50,32 @@ fn fit(p: Port) -> Fitness
 {
     let t = p.table;
     if table::check(t) != 0 {
-        return queue_fitness::unfit();
+        return port_queue_fitness::unfit();
     }
     let clock = p.clock;
     if 281474976710655 < clock {
-        return queue_fitness::unfit();
+        return port_queue_fitness::unfit();
     }
     let queues = p.queues;
     let sender = p.sender;
-    let queued = queue_fitness::queues_fit(t, queues, sender, clock);
+    let queued = port_queue_fitness::queues_fit(t, queues, sender, clock);
     if !queued.fits {
-        return queue_fitness::unfit();
+        return port_queue_fitness::unfit();
     }
     let line_ticks = p.line_ticks;
-    if !fitness::lines_fit(line_ticks, t.lines, clock) {
-        return queue_fitness::unfit();
+    if !port_fitness::lines_fit(line_ticks, t.lines, clock) {
+        return port_queue_fitness::unfit();
     }
     let accounts = p.accounts;
     Fitness {
-        fits: fitness::accounts_fit(accounts, t, clock),
+        fits: port_fitness::accounts_fit(accounts, t, clock),
         frames: queued.frames,
     }
 }
 
 // 0, or the number of the first refusal of a report that is lent a list of so much room.
 pub(crate) fn refusal(p: Port, report: Report, room: usize) -> u32
-    ensures { λ r. ⌜ r ≡ reportRefusal (tableOf p) (portOf p) (reportOf report) room ⌝ }
+    ensures { λ r. ⌜ r ≡ reportRefusal (viewPortTable p) (viewPort p) (viewReport report) room ⌝ }
 {
     let checked = fit(p);
     if !checked.fits {

@@ -4,24 +4,24 @@ use crate::Port;
 use crate::Report;
 use crate::charging;
 use crate::refusals;
-use lookup::Place;
 use numbers::u32_as_u64;
+use table_lookup::Place;
 ghost use mathlib.Core.Path.{_≡_};
 ghost use lib.ListN.{length};
 ghost use Rattle.model.specs.Report.{reportRefusal};
-ghost use Rattle.port.specs.View.{tableOf, portOf, reportOf};
+ghost use Rattle.port.specs.View.{viewPortTable, viewPort, viewReport};
 ghost use Rattle.port.specs.Contracts.{Answered};
 
 // A report that is not refused: the port advances, then a frame is judged: filtered (1), policed (2), dropped (3)
 // or stored (0). Fitness is not tested here.
 pub(crate) fn report(p: Port, r: Report, list: &mut [u64]) -> Answer
-    requires { ⌜ reportRefusal (tableOf p) (portOf p) (reportOf r) (length (now list)) ≡ 0 ⌝ }
-    ensures { λ a. ⌜ Answered p (reportOf r) (now (list .entry)) (now (list .exit)) a ⌝ }
+    requires { ⌜ reportRefusal (viewPortTable p) (viewPort p) (viewReport r) (length (now list)) ≡ 0 ⌝ }
+    ensures { λ a. ⌜ Answered p (viewReport r) (now (list .entry)) (now (list .exit)) a ⌝ }
 {
     let time = refusals::tick_of(r);
     let waiting = p.queues;
     let sending = p.sender;
-    let moved = scheduler::advance(waiting, sending, p.clock, time, list);
+    let moved = port_scheduler::advance(waiting, sending, p.clock, time, list);
     let table = p.table;
     let mut queues = moved.queues;
     let sender = moved.sender;
@@ -33,10 +33,10 @@ pub(crate) fn report(p: Port, r: Report, list: &mut [u64]) -> Answer
     if let Report::Frame(_, line, number, length) = r {
         line_ticks[line as usize] = time;
         verdict = 1;
-        if let Place::At(i) = lookup::place_of(&table.numbers, table.count, number) {
+        if let Place::At(i) = table_lookup::place_of(&table.numbers, table.count, number) {
             let link = table.links[i];
-            let f = storing::arrived(table.numbers[i], length, time);
-            if storing::admits(link, line, f.length) {
+            let f = port_storing::arrived(table.numbers[i], length, time);
+            if port_storing::admits(link, line, f.length) {
                 let reached = Port {
                     table,
                     clock: time,
@@ -58,7 +58,7 @@ pub(crate) fn report(p: Port, r: Report, list: &mut [u64]) -> Answer
                 verdict = 2;
                 if c.passed {
                     let k = link.priority as usize;
-                    let s = storing::settle(queues[k], table.sizes[k], f);
+                    let s = port_storing::settle(queues[k], table.sizes[k], f);
                     verdict = s.verdict;
                     let kept = s.queue;
                     queues[k] = kept;
@@ -84,7 +84,7 @@ pub(crate) fn report(p: Port, r: Report, list: &mut [u64]) -> Answer
 
 // A report to any record: refused, with the record as it came and nothing written; or not.
 pub(crate) fn handle(p: Port, r: Report, list: &mut [u64]) -> Answer
-    ensures { λ a. ⌜ Answered p (reportOf r) (now (list .entry)) (now (list .exit)) a ⌝ }
+    ensures { λ a. ⌜ Answered p (viewReport r) (now (list .entry)) (now (list .exit)) a ⌝ }
 {
     let refused = refusals::refusal(p, r, list.len());
     if refused != 0 {

@@ -1,13 +1,13 @@
 // The fresh port of a table, and the blank one that stands for none.
 use crate::Fresh;
 use crate::Port;
-use policing::Account;
-use scheduler::Frame;
-use scheduler::Queue;
-use scheduler::Sender;
+use port_policing::Account;
+use port_scheduler::Frame;
+use port_scheduler::Queue;
+use port_scheduler::Sender;
 use table::Table;
 ghost use mathlib.Core.Path.{_≡_};
-ghost use Rattle.port.specs.Contracts.{freshOf};
+ghost use Rattle.port.specs.Contracts.{recordFresh};
 ghost use Rattle.port.specs.Resting.{restingWith};
 
 // A port with nothing held, at clock 0.
@@ -36,7 +36,7 @@ fn resting_with(table: Table, accounts: [Account; 256]) -> Port
 
 // 3 to 6; else the fresh port.
 pub(crate) fn fresh(table: Table) -> Fresh
-    ensures { λ r. ⌜ r ≡ freshOf table ⌝ }
+    ensures { λ r. ⌜ r ≡ recordFresh table ⌝ }
 {
     let refused = table::check(table);
     if refused != 0 {
@@ -48,6 +48,6 @@ pub(crate) fn fresh(table: Table) -> Fresh
     }
     Fresh {
         refused: 0,
-        port: resting_with(table, policing::full_accounts(table)),
+        port: resting_with(table, port_policing::full_accounts(table)),
     }
 }

@@ -28,7 +28,7 @@ fn run(file: &[u8], frames: u64, waits: u64)
     let fresh = Port::fresh(t);
     let port = waited(filled(fresh.port, frames), waits);
     let queues = port.queues;
-    io::print_decimal(STDOUT_FILENO, scheduler::frames_held(queues));
+    io::print_decimal(STDOUT_FILENO, port_scheduler::frames_held(queues));
     io::write_all(STDOUT_FILENO, b"\n");
 }
 

@@ -12,7 +12,7 @@ use libc::STDIN_FILENO;
 use libc::STDOUT_FILENO;
 use port::Answer;
 use port::Port;
-use scheduler::Queue;
+use port_scheduler::Queue;
 use sums::LIST;
 
 // The longest record of a case.
@@ -147,7 +147,7 @@ fn held(q: Queue) -> u64 {
     let n = least(q.count as usize, 195);
     let mut r = q;
     r.count = n as u16;
-    scheduler::held(r)
+    port_scheduler::held(r)
 }
 
 fn say(text: &[u8]) {

@@ -1,9 +1,9 @@
 // 32-bit FNV-1a of a list, and of the numbers of a port, each number as 8 bytes, little-endian.
 use crate::given::least;
-use policing::Account;
 use port::Port;
-use scheduler::Queue;
-use scheduler::Sender;
+use port_policing::Account;
+use port_scheduler::Queue;
+use port_scheduler::Sender;
 use table::Table;
 use table::VirtualLink;
 ghost use Prim.Native.Nat.{_≤_};

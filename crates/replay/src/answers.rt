@@ -5,7 +5,7 @@ use crate::text::with;
 use crate::text::with_number;
 use libc::STDOUT_FILENO;
 use port::Port;
-use scheduler::Queue;
+use port_scheduler::Queue;
 ghost use Prim.Native.Nat.{_≤_};
 
 // Room for all that 8 queues of 195 frames can free, three numbers each.
@@ -73,5 +73,5 @@ fn held(q: Queue) -> u64 {
     if q.count > 195 {
         return 0;
     }
-    scheduler::held(q)
+    port_scheduler::held(q)
 }

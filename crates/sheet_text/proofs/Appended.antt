@@ -6,10 +6,10 @@ use native.Mathlib.Numerals.{add-one, unary-clauses}
 use native.Mathlib.Omega.{arith}
 use lib.ListN.{length, getD, take, drop, set, replicate, length-append}
 use lib.Seq.{take-suc, take-all, length-take-le, take-append-seam, drop-append-add}
-use Rattle.record_writer.specs.Output.{laid}
-use Rattle.record_writer.proofs.Laid.{length-laid, none-laid, laid-behind, stores-laid}
+use Rattle.table_record_writer.specs.Output.{laid}
+use Rattle.table_record_writer.proofs.Laid.{length-laid, none-laid, laid-behind, stores-laid}
 use Rattle.sheet_text.specs.declared.Text.{Text}
-use Rattle.sheet_text.specs.Fixed.{textOf, Appended}
+use Rattle.sheet_text.specs.Fixed.{recordText, Appended}
 
 -- ---- one byte more of a part
 pub none-put : (at : ℕ) (part out : List ℕ) → out ≡ laid at (take 0 part) out
@@ -48,8 +48,8 @@ drop-zeros zero n = simp unary-clauses
 drop-zeros (suc k) zero = let e : 0 - suc k ≡ 0 = omega arith in rw e
 drop-zeros (suc k) (suc n) = simp unary-clauses (drop-zeros k n)
 
-pub text-len : (t : Text) (l : List ℕ) → t ≡ textOf l → t .len ≡ length l
-unfolding textOf
+pub text-len : (t : Text) (l : List ℕ) → t ≡ recordText l → t .len ≡ length l
+unfolding recordText
 text-len t l e = ap (λ (y : Text). y .len) e
 
 text-bytes : (l a : List ℕ) → length l + length a ≤ 524 → laid (length l) a (l ++ replicate (524 - length l) 0) ≡ l ++ a ++ replicate (524 - length (l ++ a)) 0
@@ -61,8 +61,8 @@ text-bytes l a h =
     drop-append-add l zeros (length a) ∙ drop-zeros (length a) (524 - length l) ∙ ap (λ (k : ℕ). replicate k 0) n in
     rw (take-append-seam l zeros, behind)
 
-pub put-text : (t x : Text) (l a : List ℕ) → t ≡ textOf l → Appended t x a → x ≡ textOf (l ++ a)
-unfolding textOf
+pub put-text : (t x : Text) (l a : List ℕ) → t ≡ recordText l → Appended t x a → x ≡ recordText (l ++ a)
+unfolding recordText
 put-text t x l a e p =
     let n : t .len ≡ length l = text-len t l e in
     let start : t .bytes ≡ l ++ replicate (524 - length l) 0 = ap (λ (y : Text). y .bytes) e in
@@ -71,6 +71,6 @@ put-text t x l a e p =
     (λ i. record { bytes = bytes i; len = len i })
 
 -- so that what is written out is the text
-pub text-within : (t : Text) (l : List ℕ) → t ≡ textOf l → t .len ≤ length (t .bytes)
-unfolding textOf
+pub text-within : (t : Text) (l : List ℕ) → t ≡ recordText l → t .len ≤ length (t .bytes)
+unfolding recordText
 text-within t l e = rw e (omega (arith, length-append l (replicate (524 - length l) 0)))

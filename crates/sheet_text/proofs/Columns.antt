@@ -14,7 +14,7 @@ use lib.ListN.{length, getD, length-append}
 use borrow.Author.Tests.{eq-eqb, ne-eqb, lt-ltb, le-ltb}
 use Rattle.model.specs.Sheet.{text, numeral, difference, fill, sheetLine, header}
 use Rattle.sheet_text.specs.declared.Text.{Text}
-use Rattle.sheet_text.specs.Fixed.{textOf, Appended, column, signedNumeral, linesTo, tableLines}
+use Rattle.sheet_text.specs.Fixed.{recordText, Appended, column, signedNumeral, linesTo, tableLines}
 use Rattle.sheet_text.proofs.Appended.{put-text}
 use Rattle.sheet_text.proofs.Digits.{length-most, length-one}
 use Rattle.sheet_text.proofs.Signed.{difference-printed, difference-few, difference-exact}
@@ -93,17 +93,17 @@ length-line priority bound hold size h i j k =
 
 -- ---- line by line
 module _ (bounds holds sizes : List ℕ) where
-  pub none-there : (start out : Text) → start ≡ textOf [] → Appended start out header → out ≡ textOf (header ++ linesTo bounds holds sizes 0)
+  pub none-there : (start out : Text) → start ≡ recordText [] → Appended start out header → out ≡ recordText (header ++ linesTo bounds holds sizes 0)
   unfolding linesTo
-  none-there start out e p = put-text start out [] header e p ∙ ap textOf (sym (append-nil header))
+  none-there start out e p = put-text start out [] header e p ∙ ap recordText (sym (append-nil header))
 
-  pub one-there : (p : ℕ) (out next : Text) → out ≡ textOf (header ++ linesTo bounds holds sizes p) →
-      Appended out next (sheetLine p (getD bounds p 0) (getD holds p 0) (getD sizes p 0)) → next ≡ textOf (header ++ linesTo bounds holds sizes (p + 1))
+  pub one-there : (p : ℕ) (out next : Text) → out ≡ recordText (header ++ linesTo bounds holds sizes p) →
+      Appended out next (sheetLine p (getD bounds p 0) (getD holds p 0) (getD sizes p 0)) → next ≡ recordText (header ++ linesTo bounds holds sizes (p + 1))
   unfolding linesTo
   one-there p out next e q =
       let line = sheetLine p (getD bounds p 0) (getD holds p 0) (getD sizes p 0) in
       put-text out next (header ++ linesTo bounds holds sizes p) line e q
-      ∙ rw add-one (ap textOf (append-assoc header (linesTo bounds holds sizes p) line))
+      ∙ rw add-one (ap recordText (append-assoc header (linesTo bounds holds sizes p) line))
 
-  pub all-there : (p : ℕ) (out : Text) → p ≡ 8 → out ≡ textOf (header ++ linesTo bounds holds sizes p) → out ≡ textOf (tableLines bounds holds sizes)
+  pub all-there : (p : ℕ) (out : Text) → p ≡ 8 → out ≡ recordText (header ++ linesTo bounds holds sizes p) → out ≡ recordText (tableLines bounds holds sizes)
   all-there p out n e = rw n at e

@@ -12,11 +12,11 @@ use Rattle.model.specs.TableFile.{Reading, readTable}
 use Rattle.model.specs.Bounds.{boundsRefusal, bound, hold, sizedOr, sizing}
 use Rattle.model.specs.Sheet.{sheetOr, sheet}
 use Rattle.table_file.specs.declared.Reading.{Reading as ReadingRecord}
-use Rattle.table.specs.View.{viewOf, recordOf}
-use Rattle.table_file.specs.Answers.{readingOf}
+use Rattle.table.specs.View.{viewTable, recordTable}
+use Rattle.table_file.specs.Answers.{recordReading}
 use Rattle.table_file.proofs.Back.{read-shown}
 use Rattle.sheet_text.specs.declared.Text.{Text}
-use Rattle.sheet_text.specs.Fixed.{textOf, linesTo, tableLines, refusalLine}
+use Rattle.sheet_text.specs.Fixed.{recordText, linesTo, tableLines, refusalLine}
 
 -- the bytes that are read
 pub cut : (input : List ℕ) → take (min (length input) 4_653) input ≡ take 4_653 input
@@ -82,18 +82,18 @@ second-there zero m e = refl
 second-there (suc n) m e = absurd (omega arith)
 
 -- ---- from the answers of reader and calculation
-module _ (input : List ℕ) (end : ℕ) (r : ReadingRecord) (n : end ≡ min (length input) 4_653) (read : r ≡ readingOf (readTable (take end input))) where
+module _ (input : List ℕ) (end : ℕ) (r : ReadingRecord) (n : end ≡ min (length input) 4_653) (read : r ≡ recordReading (readTable (take end input))) where
   abbrev file : Reading
   file = readTable (take end input)
 
-  shown : viewOf (r .table) ≡ file .table
-  shown = ap (λ (x : ReadingRecord). viewOf (x .table)) read ∙ read-shown (take end input)
+  shown : viewTable (r .table) ≡ file .table
+  shown = ap (λ (x : ReadingRecord). viewTable (x .table)) read ∙ read-shown (take end input)
 
   sizes-same : r .table .sizes ≡ file .table .sizes
-  unfolding recordOf
+  unfolding recordTable
   sizes-same = ap (λ (x : ReadingRecord). x .table .sizes) read
 
-  module _ (refused number : ℕ) (same : refused ≡ sizing (viewOf (r .table)) .refused) (first : number ≡ firstRefusal (r .refused) refused) where
+  module _ (refused number : ℕ) (same : refused ≡ sizing (viewTable (r .table)) .refused) (first : number ≡ firstRefusal (r .refused) refused) where
     number-is : number ≡ firstRefusal (file .refused) (sizing (file .table) .refused)
     number-is = first ∙ rw (same, shown, read)
 
@@ -101,13 +101,13 @@ module _ (input : List ℕ) (end : ℕ) (r : ReadingRecord) (n : end ≡ min (le
     unfolding sheet
     whole = rw (number-is, refused-is (file .table), n, cut input)
 
-    pub refused-text : (x : Text) → (number ≡ 0 → ⊥) → x ≡ textOf (refusalLine number) → x ≡ textOf (sheet input)
-    refused-text x h e = e ∙ ap textOf (refused-line number (file .table) h ∙ whole)
+    pub refused-text : (x : Text) → (number ≡ 0 → ⊥) → x ≡ recordText (refusalLine number) → x ≡ recordText (sheet input)
+    refused-text x h e = e ∙ ap recordText (refused-line number (file .table) h ∙ whole)
 
-    pub lines-text : (x : Text) (bounds holds : List ℕ) → number ≡ 0 → bounds ≡ sizing (viewOf (r .table)) .bounds → holds ≡ sizing (viewOf (r .table)) .holds →
-        x ≡ textOf (tableLines bounds holds (r .table .sizes)) → x ≡ textOf (sheet input)
+    pub lines-text : (x : Text) (bounds holds : List ℕ) → number ≡ 0 → bounds ≡ sizing (viewTable (r .table)) .bounds → holds ≡ sizing (viewTable (r .table)) .holds →
+        x ≡ recordText (tableLines bounds holds (r .table .sizes)) → x ≡ recordText (sheet input)
     lines-text x bounds holds z b h e =
         let none : sizing (file .table) .refused ≡ 0 = none-second (file .refused) (sizing (file .table) .refused) (sym number-is ∙ z) in
         let bs : bounds ≡ eight (bound (file .table)) = b ∙ ap (λ (t : Table). sizing t .bounds) shown ∙ bounds-are (file .table) none in
         let hs : holds ≡ eight (hold (file .table)) = h ∙ ap (λ (t : Table). sizing t .holds) shown ∙ holds-are (file .table) none in
-        e ∙ ap textOf (rw (bs, hs, sizes-same) (lines-there (file .table)) ∙ ap (λ (k : ℕ). sheetOr k (file .table)) (sym z) ∙ whole)
+        e ∙ ap recordText (rw (bs, hs, sizes-same) (lines-there (file .table)) ∙ ap (λ (k : ℕ). sheetOr k (file .table)) (sym z) ∙ whole)

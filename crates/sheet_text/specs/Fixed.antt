@@ -5,12 +5,12 @@ use Prim.Native.Nat.{ℕ, zero, suc, _+_, _-_, _≤_}
 use lib.ListN.{length, getD, replicate}
 use lib.IntN.{ℤ, pos, negsuc}
 use Rattle.model.specs.Sheet.{text, numeral, sheetLine, header}
-use Rattle.record_writer.specs.Output.{laid}
+use Rattle.table_record_writer.specs.Output.{laid}
 use Rattle.sheet_text.specs.declared.Text.{Text}
 
 -- the text that has these bytes: they stand first, and zeros behind them
-unfoldable pub textOf : List ℕ → Text
-textOf l = record { bytes = l ++ replicate (524 - length l) 0; len = length l }
+unfoldable pub recordText : List ℕ → Text
+recordText l = record { bytes = l ++ replicate (524 - length l) 0; len = length l }
 
 -- a part was put behind a text: its bytes, the rest of the array stays; the length; it fits
 pub record Appended (before after : Text) (part : List ℕ) : Type 0 where

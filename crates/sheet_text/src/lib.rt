@@ -6,7 +6,7 @@ ghost use mathlib.Core.Path.{_≡_};
 ghost use Prim.Native.Nat.{min};
 ghost use Rattle.model.specs.Basics.{firstRefusal};
 ghost use Rattle.model.specs.Sheet.{sheet};
-ghost use Rattle.sheet_text.specs.Fixed.{textOf};
+ghost use Rattle.sheet_text.specs.Fixed.{recordText};
 
 // A line has at most 61 bytes: 1 digit for the priority, 10 for each of three 32-bit numbers, 11 for spare, 13 for fill,
 // 5 blanks and the end. The header has 36, so any sheet fits into 36 + 8 × 61. Bytes behind len are 0.
@@ -30,7 +30,7 @@ fn first_refusal(file: u32, bounds: u32) -> u32
 
 // The sheet of a table file, or `refused N` with the first refusal: the reader's, 1 to 7, then 8.
 pub fn text_of(input: &[u8]) -> Text
-    ensures { λ r. ⌜ r ≡ textOf (sheet (now (input .entry))) ⌝ }
+    ensures { λ r. ⌜ r ≡ recordText (sheet (now (input .entry))) ⌝ }
 {
     let end = used(input.len());
     let reading = table_file::read(&input[..end]);

@@ -7,10 +7,10 @@ ghost use Prim.Native.Nat.{_+_, _≤_};
 ghost use lib.IntN.{pos, _-ℤ_};
 ghost use lib.ListN.{length};
 ghost use Rattle.model.specs.Sheet.{numeral, fill, sheetLine};
-ghost use Rattle.sheet_text.specs.Fixed.{textOf, Appended, column, tableLines, refusalLine};
+ghost use Rattle.sheet_text.specs.Fixed.{recordText, Appended, column, tableLines, refusalLine};
 
 fn blank() -> Text
-    ensures { λ r. ⌜ r ≡ textOf [] ⌝ }
+    ensures { λ r. ⌜ r ≡ recordText [] ⌝ }
 {
     Text {
         bytes: [0u8; 524],
@@ -68,7 +68,7 @@ fn put_line(out: Text, priority: usize, bound: u32, hold: u32, size: u32) -> Tex
 
 // Each priority has its line, also where no link has that priority.
 pub(crate) fn table_lines(bounds: [u32; 8], holds: [u32; 8], sizes: [u32; 8]) -> Text
-    ensures { λ r. ⌜ r ≡ textOf (tableLines bounds holds sizes) ⌝ }
+    ensures { λ r. ⌜ r ≡ recordText (tableLines bounds holds sizes) ⌝ }
 {
     let mut out = numerals::put(blank(), b"priority bound hold size spare fill\n");
     let mut p: usize = 0;
@@ -81,7 +81,7 @@ pub(crate) fn table_lines(bounds: [u32; 8], holds: [u32; 8], sizes: [u32; 8]) ->
 }
 
 pub(crate) fn refusal_line(number: u32) -> Text
-    ensures { λ r. ⌜ r ≡ textOf (refusalLine number) ⌝ }
+    ensures { λ r. ⌜ r ≡ recordText (refusalLine number) ⌝ }
 {
     let out = numerals::put(blank(), b"refused ");
     let out = numerals::put_numeral(out, number as u64);

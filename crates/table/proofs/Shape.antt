@@ -13,7 +13,7 @@ use Rattle.model.specs.Link.{blankLink}
 use Rattle.model.proofs.Entries.{length-entries, getD-entries}
 use Rattle.table.specs.declared.VirtualLink.{VirtualLink as LinkFields}
 use Rattle.table.specs.declared.Table.{Table as TableRecord}
-use Rattle.table.specs.View.{linkOf, blankFields, joined, linksOf}
+use Rattle.table.specs.View.{viewLink, blankFields, paired, viewLinks}
 use Rattle.table.proofs.VirtualLink.{the-field as link-field}
 use Rattle.table.proofs.Table.{the-type}
 
@@ -32,19 +32,19 @@ sized t vs p =
 
 -- ---- the view
 getD-joined : (numbers : List ℕ) (links : List LinkFields) (i : ℕ) → i < length numbers → i < length links →
-    getD (joined numbers links) i blankLink ≡ linkOf (getD numbers i 0) (getD links i blankFields)
-unfolding joined
+    getD (paired numbers links) i blankLink ≡ viewLink (getD numbers i 0) (getD links i blankFields)
+unfolding paired
 getD-joined [] links i h k = absurd (omega arith)
 getD-joined (n ∷ numbers) [] i h k = absurd (omega arith)
 getD-joined (n ∷ numbers) (v ∷ links) zero h k = refl
 getD-joined (n ∷ numbers) (v ∷ links) (suc i) h k = getD-joined numbers links i (omega arith) (omega arith)
 
-pub count-shown : (t : TableRecord) → length (linksOf t) ≡ t .count
-unfolding linksOf
-count-shown t = length-entries blankLink (t .count) (joined (t .numbers) (t .links))
+pub count-shown : (t : TableRecord) → length (viewLinks t) ≡ t .count
+unfolding viewLinks
+count-shown t = length-entries blankLink (t .count) (paired (t .numbers) (t .links))
 
-pub link-shown : (t : TableRecord) (i : ℕ) → Sized t → i < t .count → t .count ≤ 256 → getD (linksOf t) i blankLink ≡ linkOf (getD (t .numbers) i 0) (getD (t .links) i blankFields)
-unfolding linksOf
+pub link-shown : (t : TableRecord) (i : ℕ) → Sized t → i < t .count → t .count ≤ 256 → getD (viewLinks t) i blankLink ≡ viewLink (getD (t .numbers) i 0) (getD (t .links) i blankFields)
+unfolding viewLinks
 link-shown t i s h k =
-    getD-entries blankLink (t .count) (joined (t .numbers) (t .links)) i h
+    getD-entries blankLink (t .count) (paired (t .numbers) (t .links)) i h
     ∙ getD-joined (t .numbers) (t .links) i (omega arith) (omega arith)

@@ -9,8 +9,8 @@ use Rattle.table.specs.declared.VirtualLink.{VirtualLink as LinkFields}
 use Rattle.table.specs.declared.Table.{Table as TableRecord}
 
 -- a link is its number and its fields, which the record keeps apart
-abbrev pub linkOf : ℕ → LinkFields → VirtualLink
-linkOf number v =
+abbrev pub viewLink : ℕ → LinkFields → VirtualLink
+viewLink number v =
     record {
       number = number;
       line = v .line;
@@ -21,31 +21,31 @@ linkOf number v =
       jitter = v .jitter;
     }
 
-abbrev pub fieldsOf : VirtualLink → LinkFields
-fieldsOf v = record { line = v .line; priority = v .priority; code = v .code; least = v .least; greatest = v .greatest; jitter = v .jitter }
+abbrev pub recordLink : VirtualLink → LinkFields
+recordLink v = record { line = v .line; priority = v .priority; code = v .code; least = v .least; greatest = v .greatest; jitter = v .jitter }
 
 abbrev pub blankFields : LinkFields
-blankFields = fieldsOf blankLink
+blankFields = recordLink blankLink
 
-unfoldable pub joined : List ℕ → List LinkFields → List VirtualLink
-joined [] links = []
-joined (n ∷ numbers) [] = []
-joined (n ∷ numbers) (v ∷ links) = linkOf n v ∷ joined numbers links
+unfoldable pub paired : List ℕ → List LinkFields → List VirtualLink
+paired [] links = []
+paired (n ∷ numbers) [] = []
+paired (n ∷ numbers) (v ∷ links) = viewLink n v ∷ paired numbers links
 
 -- "Entries of a record behind its counts are no part of a table": the first count entries
-unfoldable pub linksOf : TableRecord → List VirtualLink
-linksOf t = entries blankLink (t .count) (joined (t .numbers) (t .links))
+unfoldable pub viewLinks : TableRecord → List VirtualLink
+viewLinks t = entries blankLink (t .count) (paired (t .numbers) (t .links))
 
-unfoldable pub viewOf : TableRecord → Table
-viewOf t = record { lines = t .lines; links = linksOf t; sizes = t .sizes }
+unfoldable pub viewTable : TableRecord → Table
+viewTable t = record { lines = t .lines; links = viewLinks t; sizes = t .sizes }
 
 -- the record of a table: blank entries stand behind its count
-unfoldable pub recordOf : Table → TableRecord
-recordOf t =
+unfoldable pub recordTable : Table → TableRecord
+recordTable t =
     record {
       lines = t .lines;
       count = length (t .links);
       numbers = entries 0 256 (map (λ (v : VirtualLink). v .number) (t .links));
-      links = entries blankFields 256 (map fieldsOf (t .links));
+      links = entries blankFields 256 (map recordLink (t .links));
       sizes = t .sizes;
     }

@@ -8,7 +8,7 @@ ghost use mathlib.Core.Option.{none};
 ghost use Prim.Native.Nat.{ℕ, _≤_};
 ghost use Rattle.model.specs.Basics.{firstMet};
 ghost use Rattle.model.specs.Table.{countsInRange, fieldsInRange, linkChecks, linksChecks, sizeChecks};
-ghost use Rattle.table.specs.View.{linkOf, linksOf};
+ghost use Rattle.table.specs.View.{viewLink, viewLinks};
 ghost use Rattle.table.specs.Checks.{previousOf};
 
 pub fn counts_in_range(lines: u16, count: u16) -> bool
@@ -28,7 +28,7 @@ pub fn counts_in_range(lines: u16, count: u16) -> bool
 
 // The range of a number is that of its type.
 fn fields_in_range(lines: u16, link: VirtualLink) -> bool
-    ensures { λ r. ⌜ ((n : ℕ) → n ≤ 65535 → r ≡ fieldsInRange lines (linkOf n link)) ⌝ }
+    ensures { λ r. ⌜ ((n : ℕ) → n ≤ 65535 → r ≡ fieldsInRange lines (viewLink n link)) ⌝ }
 {
     if lines <= u8_as_u16(link.line) {
         return false;
@@ -53,7 +53,7 @@ fn fields_in_range(lines: u16, link: VirtualLink) -> bool
 
 // 4, then 5. The link has so many before it, the last of them with the previous number.
 pub fn link_refusal(lines: u16, before: usize, previous: u16, number: u16, link: VirtualLink) -> u32
-    ensures { λ r. ⌜ r ≡ firstMet (linkChecks lines (previousOf before previous) (linkOf number link)) ⌝ }
+    ensures { λ r. ⌜ r ≡ firstMet (linkChecks lines (previousOf before previous) (viewLink number link)) ⌝ }
 {
     if !fields_in_range(lines, link) {
         return 4;
@@ -70,7 +70,7 @@ pub fn link_refusal(lines: u16, before: usize, previous: u16, number: u16, link:
 // The first check from 4 to 5 that a link of the table meets.
 pub(crate) fn links_refusal(t: Table) -> u32
     requires { ⌜ countsInRange (t .lines) (t .count) ≡ true ⌝ }
-    ensures { λ r. ⌜ r ≡ firstMet (linksChecks (t .lines) none (linksOf t)) ⌝ }
+    ensures { λ r. ⌜ r ≡ firstMet (linksChecks (t .lines) none (viewLinks t)) ⌝ }
 {
     let n = t.count as usize;
     let mut previous: u16 = 0;

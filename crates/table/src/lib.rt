@@ -4,7 +4,7 @@ pub mod checks;
 ghost use mathlib.Core.Path.{_≡_};
 ghost use Rattle.model.specs.Link.{bagOf};
 ghost use Rattle.model.specs.Table.{blankTable, tableRefusal};
-ghost use Rattle.table.specs.View.{blankFields, viewOf, recordOf};
+ghost use Rattle.table.specs.View.{blankFields, viewTable, recordTable};
 
 pub struct VirtualLink {
     pub line: u8,
@@ -42,7 +42,7 @@ pub fn bag(code: u8) -> u64
 
 // 0, or the number of the first check from 3 to 6 that the table meets.
 pub fn check(t: Table) -> u32
-    ensures { λ r. ⌜ r ≡ tableRefusal (viewOf t) ⌝ }
+    ensures { λ r. ⌜ r ≡ tableRefusal (viewTable t) ⌝ }
 {
     if !checks::counts_in_range(t.lines, t.count) {
         return 3;
@@ -71,7 +71,7 @@ pub fn blank_link() -> VirtualLink
 
 // No table: it meets check 3.
 pub fn blank() -> Table
-    ensures { λ r. ⌜ r ≡ recordOf blankTable ⌝ }
+    ensures { λ r. ⌜ r ≡ recordTable blankTable ⌝ }
 {
     let blank = blank_link();
     Table {

@@ -6,8 +6,8 @@ use Rattle.model.specs.Table.{Table}
 use Rattle.model.specs.TableFile.{Reading, readTable, Writing}
 use Rattle.table_file.specs.declared.Reading.{Reading as ReadingRecord}
 use Rattle.table_file.specs.declared.Writing.{Writing as WritingRecord}
-use Rattle.table.specs.View.{viewOf}
-use Rattle.table_file.specs.Answers.{readingOf}
+use Rattle.table.specs.View.{viewTable}
+use Rattle.table_file.specs.Answers.{recordReading}
 use Rattle.table_file.specs.Answers.{Wrote}
 use Rattle.table_file.proofs.Back.{read-shown}
 use Rattle.table_c.specs.Copied.{copyOr, copyOf, Copied}
@@ -17,7 +17,7 @@ unfolding copyOr
 refused-nothing zero t output h = absurd (h refl)
 refused-nothing (suc n) t output h = (refl, refl)
 
-module _ (file before : List ℕ) (r : ReadingRecord) (e : r ≡ readingOf (readTable file)) where
+module _ (file before : List ℕ) (r : ReadingRecord) (e : r ≡ recordReading (readTable file)) where
   refusal-is : r .refused ≡ readTable file .refused
   refusal-is = ap (λ (x : ReadingRecord). x .refused) e
 
@@ -27,9 +27,9 @@ module _ (file before : List ℕ) (r : ReadingRecord) (e : r ≡ readingOf (read
       let n = refused-nothing (readTable file .refused) (readTable file .table) before (λ x. h (cc refusal-is)) in
       record { count = rw (n .0); output = rw (n .1) }
 
-  pub written-copied : r .refused ≡ 0 → (after : List ℕ) (w : WritingRecord) → Wrote (viewOf (r .table)) before after w → Copied file before after (w .written)
+  pub written-copied : r .refused ≡ 0 → (after : List ℕ) (w : WritingRecord) → Wrote (viewTable (r .table)) before after w → Copied file before after (w .written)
   unfolding copyOf copyOr
   written-copied z after w o =
       let none : readTable file .refused ≡ 0 = cc refusal-is in
-      let same : viewOf (r .table) ≡ readTable file .table = ap (λ (x : ReadingRecord). viewOf (x .table)) e ∙ read-shown file in
+      let same : viewTable (r .table) ≡ readTable file .table = ap (λ (x : ReadingRecord). viewTable (x .table)) e ∙ read-shown file in
       record { count = rw none (rw same at (o .written)); output = rw none (rw same at (o .output)) }

@@ -15,12 +15,12 @@ use Rattle.model.proofs.Lists.{length-flatMap}
 use Rattle.model.proofs.TableFacts.{table-numbered, passes, passes-counts}
 use Rattle.model.proofs.FileWrite.{length-record, length-countsBody, length-sizesBody, length-tableBytes}
 use Rattle.table.specs.declared.Table.{Table as TableRecord}
-use Rattle.table.specs.View.{linksOf, viewOf}
-use Rattle.record_writer.specs.Output.{laid, linkRecord}
+use Rattle.table.specs.View.{viewLinks, viewTable}
+use Rattle.table_record_writer.specs.Output.{laid, linkRecord}
 use Rattle.table_file.specs.Answers.{Wrote}
 use Rattle.table.proofs.Shape.{count-shown}
 use Rattle.table.proofs.Refusals.{stops-in-front, goes-on-behind}
-use Rattle.record_writer.proofs.Written.{then-laid, length-linkRecord}
+use Rattle.table_record_writer.proofs.Written.{then-laid, length-linkRecord}
 
 -- ---- refusals
 stopped : (n r : ℕ) (t : Table) (output : List ℕ) → r ≡ n → (r ≡ 0 → ⊥) → wroteOr n t output ≡ record { refused = r; written = 0; output = output }
@@ -89,34 +89,34 @@ module _ (t : Table) (output : List ℕ) (e : writeTable t output .refused ≡ 0
   not-refused-room = ltb-false (length output) (fileLength t) (none-back (tableChecks t) (check 9 (ltb (length output) (fileLength t)) ∷ []) none-refused .0)
 
 -- ---- the record's file
-pub count-few : (t : TableRecord) (r : ℕ) → r ≡ tableRefusal (viewOf t) → r ≡ 0 → t .count ≤ 256
-unfolding viewOf
+pub count-few : (t : TableRecord) (r : ℕ) → r ≡ tableRefusal (viewTable t) → r ≡ 0 → t .count ≤ 256
+unfolding viewTable
 count-few t r e z =
-    let fit = passes-counts (viewOf t) (passes (viewOf t) (sym e ∙ z)) in
+    let fit = passes-counts (viewTable t) (passes (viewTable t) (sym e ∙ z)) in
     omega (arith, fit .links-most, count-shown t)
 
-pub length-shown : (t : TableRecord) → fileLength (viewOf t) ≡ 44 + 18 * t .count
-unfolding viewOf
+pub length-shown : (t : TableRecord) → fileLength (viewTable t) ≡ 44 + 18 * t .count
+unfolding viewTable
 length-shown t = rw count-shown
 
 module _ (t : TableRecord) (output a b c : List ℕ) (eight : length (t .sizes) ≡ 8) (h : 44 + 18 * t .count ≤ length output) where
-  whole-laid : a ≡ laid 0 (recordBytes 1 (countsBody (t .lines) (t .count))) output → b ≡ laid 8 (flatMap linkRecord (linksOf t)) a →
-      c ≡ laid (8 + 18 * t .count) (recordBytes 3 (sizesBody (t .sizes))) b → c ≡ laid 0 (tableBytes (viewOf t)) output
-  unfolding viewOf tableBytes
+  whole-laid : a ≡ laid 0 (recordBytes 1 (countsBody (t .lines) (t .count))) output → b ≡ laid 8 (flatMap linkRecord (viewLinks t)) a →
+      c ≡ laid (8 + 18 * t .count) (recordBytes 3 (sizesBody (t .sizes))) b → c ≡ laid 0 (tableBytes (viewTable t)) output
+  unfolding viewTable tableBytes
   whole-laid pa pb pc =
       let first = recordBytes 1 (countsBody (t .lines) (t .count)) in
-      let links = flatMap linkRecord (linksOf t) in
+      let links = flatMap linkRecord (viewLinks t) in
       let last = recordBytes 3 (sizesBody (t .sizes)) in
       let n1 : length first ≡ 8 = length-record 1 (countsBody (t .lines) (t .count)) ∙ rw length-countsBody in
-      let n2 : length links ≡ 18 * t .count = length-flatMap linkRecord 18 length-linkRecord (linksOf t) ∙ rw count-shown in
+      let n2 : length links ≡ 18 * t .count = length-flatMap linkRecord 18 length-linkRecord (viewLinks t) ∙ rw count-shown in
       let n3 : length last ≡ 36 = length-record 3 (sizesBody (t .sizes)) ∙ rw (length-sizesBody, eight) in
       let n12 : length (first ++ links) ≡ 8 + 18 * t .count = length-append first links ∙ omega arith in
       let qb = then-laid 0 8 first links output a b (omega arith) (omega arith) pa pb in
       rw count-shown (then-laid 0 (8 + 18 * t .count) (first ++ links) last output b c (omega arith) (omega arith) qb pc)
 
-  pub file-laid : a ≡ laid 0 (recordBytes 1 (countsBody (t .lines) (t .count))) output → b ≡ laid 8 (flatMap linkRecord (linksOf t)) a →
-      c ≡ laid (8 + 18 * t .count) (recordBytes 3 (sizesBody (t .sizes))) b → c ≡ tableBytes (viewOf t) ++ drop (fileLength (viewOf t)) output
-  unfolding laid viewOf
+  pub file-laid : a ≡ laid 0 (recordBytes 1 (countsBody (t .lines) (t .count))) output → b ≡ laid 8 (flatMap linkRecord (viewLinks t)) a →
+      c ≡ laid (8 + 18 * t .count) (recordBytes 3 (sizesBody (t .sizes))) b → c ≡ tableBytes (viewTable t) ++ drop (fileLength (viewTable t)) output
+  unfolding laid viewTable
   file-laid pa pb pc =
-      let n : 0 + length (tableBytes (viewOf t)) ≡ fileLength (viewOf t) = omega (arith, length-tableBytes (viewOf t) eight) in
+      let n : 0 + length (tableBytes (viewTable t)) ≡ fileLength (viewTable t) = omega (arith, length-tableBytes (viewTable t) eight) in
       whole-laid pa pb pc ∙ rw n

@@ -17,9 +17,9 @@ use Rattle.model.proofs.ReadBack.{read-written}
 use Rattle.table.specs.declared.Table.{Table as TableRecord}
 use Rattle.table_file.specs.declared.Reading.{Reading as ReadingRecord}
 use Rattle.table_file.specs.declared.Writing.{Writing}
-use Rattle.table.specs.View.{viewOf, recordOf}
+use Rattle.table.specs.View.{viewTable, recordTable}
 use Rattle.table.proofs.Shown.{record-shown}
-use Rattle.table_file.specs.Answers.{readingOf, Wrote}
+use Rattle.table_file.specs.Answers.{recordReading, Wrote}
 use Rattle.table_file.proofs.Answers.{accepted, not-refused-passes, not-refused-room}
 
 links-few : (file : List ℕ) → length (readTable file .table .links) ≤ 256
@@ -30,38 +30,38 @@ links-few file = go (ℕ-discrete (readTable file .refused) 0)
     go (no z) = rw (refused-blank file (omega arith)) (omega arith)
 
 -- the record that is read shows the table that the model reads
-pub read-shown : (file : List ℕ) → viewOf (recordOf (readTable file .table)) ≡ readTable file .table
+pub read-shown : (file : List ℕ) → viewTable (recordTable (readTable file .table)) ≡ readTable file .table
 read-shown file = record-shown (readTable file .table) (links-few file)
 
 -- ---- there and back
 
 -- a table that is written is read back, entries behind the count being blank
-pub written-back : (t : TableRecord) (before after : List ℕ) (w : Writing) (r : ReadingRecord) → Wrote (viewOf t) before after w → w .refused ≡ 0 →
-    r ≡ readingOf (readTable (take (w .written) after)) → (r .refused ≡ 0) × (r .table ≡ recordOf (viewOf t)) × (viewOf (r .table) ≡ viewOf t)
+pub written-back : (t : TableRecord) (before after : List ℕ) (w : Writing) (r : ReadingRecord) → Wrote (viewTable t) before after w → w .refused ≡ 0 →
+    r ≡ recordReading (readTable (take (w .written) after)) → (r .refused ≡ 0) × (r .table ≡ recordTable (viewTable t)) × (viewTable (r .table) ≡ viewTable t)
 written-back t before after w r wrote z q =
-    let pass = not-refused-passes (viewOf t) before (sym (wrote .refused) ∙ z) in
-    let all = accepted (viewOf t) before pass (not-refused-room (viewOf t) before (sym (wrote .refused) ∙ z)) in
-    let n : w .written ≡ fileLength (viewOf t) = wrote .written ∙ ap (λ (a : ModelWriting). a .written) all in
-    let o : after ≡ tableBytes (viewOf t) ++ drop (fileLength (viewOf t)) before = wrote .output ∙ ap (λ (a : ModelWriting). a .output) all in
-    let file : take (w .written) after ≡ tableBytes (viewOf t) =
-    rw (n, o) (take-at (tableBytes (viewOf t)) (drop (fileLength (viewOf t)) before) (fileLength (viewOf t)) (written-length (viewOf t) pass)) in
-    let back : readTable (take (w .written) after) ≡ record { refused = 0; table = viewOf t } = ap readTable file ∙ read-written (viewOf t) pass in
-    let same : r ≡ record { refused = 0; table = recordOf (viewOf t) } = q ∙ ap readingOf back in
-    let few : length (viewOf t .links) ≤ 256 = passes-counts (viewOf t) (passes (viewOf t) pass) .links-most in
-    let table : r .table ≡ recordOf (viewOf t) = ap (λ (a : ReadingRecord). a .table) same in
-    (ap (λ (a : ReadingRecord). a .refused) same, table, ap viewOf table ∙ record-shown (viewOf t) few)
+    let pass = not-refused-passes (viewTable t) before (sym (wrote .refused) ∙ z) in
+    let all = accepted (viewTable t) before pass (not-refused-room (viewTable t) before (sym (wrote .refused) ∙ z)) in
+    let n : w .written ≡ fileLength (viewTable t) = wrote .written ∙ ap (λ (a : ModelWriting). a .written) all in
+    let o : after ≡ tableBytes (viewTable t) ++ drop (fileLength (viewTable t)) before = wrote .output ∙ ap (λ (a : ModelWriting). a .output) all in
+    let file : take (w .written) after ≡ tableBytes (viewTable t) =
+    rw (n, o) (take-at (tableBytes (viewTable t)) (drop (fileLength (viewTable t)) before) (fileLength (viewTable t)) (written-length (viewTable t) pass)) in
+    let back : readTable (take (w .written) after) ≡ record { refused = 0; table = viewTable t } = ap readTable file ∙ read-written (viewTable t) pass in
+    let same : r ≡ record { refused = 0; table = recordTable (viewTable t) } = q ∙ ap recordReading back in
+    let few : length (viewTable t .links) ≤ 256 = passes-counts (viewTable t) (passes (viewTable t) pass) .links-most in
+    let table : r .table ≡ recordTable (viewTable t) = ap (λ (a : ReadingRecord). a .table) same in
+    (ap (λ (a : ReadingRecord). a .refused) same, table, ap viewTable table ∙ record-shown (viewTable t) few)
 
 -- a file that is read is written back, byte for byte, where the output has room for it
-pub file-back : (file before after : List ℕ) (r : ReadingRecord) (w : Writing) → AllBytes file → r ≡ readingOf (readTable file) → r .refused ≡ 0 → length file ≤ length before →
-    Wrote (viewOf (r .table)) before after w → (w .refused ≡ 0) × (w .written ≡ length file) × (after ≡ file ++ drop (length file) before)
+pub file-back : (file before after : List ℕ) (r : ReadingRecord) (w : Writing) → AllBytes file → r ≡ recordReading (readTable file) → r .refused ≡ 0 → length file ≤ length before →
+    Wrote (viewTable (r .table)) before after w → (w .refused ≡ 0) × (w .written ≡ length file) × (after ≡ file ++ drop (length file) before)
 file-back file before after r w bytes q z room wrote =
     let t = readTable file .table in
     let e : readTable file .refused ≡ 0 = sym (ap (λ (a : ReadingRecord). a .refused) q) ∙ z in
-    let shown : viewOf (r .table) ≡ t = ap (λ (a : ReadingRecord). viewOf (a .table)) q ∙ read-shown file in
+    let shown : viewTable (r .table) ≡ t = ap (λ (a : ReadingRecord). viewTable (a .table)) q ∙ read-shown file in
     let pass = read-passes file e in
     let same : tableBytes t ≡ file = written-read file bytes e in
     let long : fileLength t ≡ length file = sym (written-length t pass) ∙ ap length same in
-    let all : writeTable (viewOf (r .table)) before ≡ record { refused = 0; written = fileLength t; output = tableBytes t ++ drop (fileLength t) before } =
+    let all : writeTable (viewTable (r .table)) before ≡ record { refused = 0; written = fileLength t; output = tableBytes t ++ drop (fileLength t) before } =
     rw shown (accepted t before pass (omega arith)) in (
       wrote .refused ∙ ap (λ (a : ModelWriting). a .refused) all,
       wrote .written ∙ ap (λ (a : ModelWriting). a .written) all ∙ long,

@@ -14,15 +14,15 @@ use Rattle.model.proofs.Entries.{entries-blank, entries-next}
 use Rattle.model.proofs.Checks.{NoneMet, none-met, none-back}
 use Rattle.model.proofs.TableFacts.{counts-fit}
 use Rattle.table.specs.declared.VirtualLink.{VirtualLink as LinkFields}
-use Rattle.record_reader.specs.declared.Record.{Record}
-use Rattle.record_reader.specs.declared.Record.the-variants.{Counts, Link, Sizes}
+use Rattle.table_record_reader.specs.declared.Record.{Record}
+use Rattle.table_record_reader.specs.declared.Record.the-variants.{Counts, Link, Sizes}
 use Rattle.table_file.specs.declared.Reading.{Reading as ReadingRecord}
 use Rattle.table.specs.Checks.{previousOf}
-use Rattle.table.specs.View.{linkOf, fieldsOf, blankFields, recordOf}
-use Rattle.record_reader.specs.Records.{Said, saying, linkValues, said, saidOr, countsDue, linkDue, sizesDue, dueAt}
-use Rattle.table_file.specs.Answers.{readingOf}
+use Rattle.table.specs.View.{viewLink, recordLink, blankFields, recordTable}
+use Rattle.table_record_reader.specs.Records.{Said, saying, linkValues, said, saidOr, countsDue, linkDue, sizesDue, dueAt}
+use Rattle.table_file.specs.Answers.{recordReading}
 use Rattle.table.proofs.Refusals.{previous-more}
-use Rattle.record_reader.proofs.Due.{due-counts, due-link, due-sizes}
+use Rattle.table_record_reader.proofs.Due.{due-counts, due-link, due-sizes}
 
 -- ---- what an answer says of the checks
 said-goes : (s next : Said) (n : ℕ) → s ≡ saidOr n next → (s .kind ≡ 0 → ⊥) → (n ≡ 0) × (s ≡ next)
@@ -51,11 +51,11 @@ go-is (suc n) next e = absurd (omega arith)
 
 -- the answer of a record that is not the one due is the reader's
 stopped : (r : Reading) (n m : ℕ) (next : Reading) (s due : Said) (a : ReadingRecord) → r ≡ stopOr n next → s ≡ saidOr n due → (s .kind ≡ due .kind → ⊥) → m ≡ s .refused →
-    a ≡ record { refused = m; table = recordOf blankTable } → a ≡ readingOf r
+    a ≡ record { refused = m; table = recordTable blankTable } → a ≡ recordReading r
 stopped r n m next s due a e q z p f =
     let parts = said-stops s due n q z in
     let k : m ≡ n = p ∙ parts .1 in
-    f ∙ rw k (ap readingOf (sym (e ∙ stop-is n next (parts .0))))
+    f ∙ rw k (ap recordReading (sym (e ∙ stop-is n next (parts .0))))
 
 -- ---- entries that are filled one by one
 entries-more : {A B : Type 0} (b : B) (f : A → B) (n : ℕ) (l : List A) (v : A) → length l < n → set (entries b n (map f l)) (length l) (f v) ≡ entries b n (map f (l ++ (v ∷ [])))
@@ -71,7 +71,7 @@ pub record SoFar (file : List ℕ) (lines count : ℕ) (numbers : List ℕ) (lin
   pub before : length found + 1 ≡ read
   pub within : read ≤ count + 1
   pub numbered : numbers ≡ entries 0 256 (map (λ (v : VirtualLink). v .number) found)
-  pub filled : links ≡ entries blankFields 256 (map fieldsOf found)
+  pub filled : links ≡ entries blankFields 256 (map recordLink found)
   pub left : readTable file ≡ readLinks lines (count - length found) (previousOf (read - 1) previous) found rest
 
 -- ---- counts
@@ -91,7 +91,7 @@ module _ (file : List ℕ) where
   counts-said = due-counts file 0 0 0 0 refl
 
   pub counts-stop : (x : Record) (m : ℕ) (a : ReadingRecord) → said x ≡ dueAt file 0 0 0 0 → (said x .kind ≡ 1 → ⊥) → m ≡ said x .refused →
-      a ≡ record { refused = m; table = recordOf blankTable } → a ≡ readingOf (readTable file)
+      a ≡ record { refused = m; table = recordTable blankTable } → a ≡ recordReading (readTable file)
   counts-stop x m a e o p f =
       stopped (readTable file) counts-met m after-counts (said x) (saying 1 (numberAt 4 2 file ∷ numberAt 6 2 file ∷ [])) a counts-step (e ∙ counts-said) o p f
 
@@ -168,14 +168,14 @@ module _ (lines : ℕ) (previous : Option ℕ) (rest : List ℕ) where
     link-parts : (link-met ≡ 0) × (said x ≡ saying 2 (linkValues (linkRead rest)))
     link-parts = said-goes (said x) (saying 2 (linkValues (linkRead rest))) link-met (e ∙ link-said) kind-two
 
-    link-same : linkValues (linkOf number v) ≡ linkValues (linkRead rest)
+    link-same : linkValues (viewLink number v) ≡ linkValues (linkRead rest)
     unfolding said
     link-same = ap (λ (u : Said). u .values) (sym (ap said q) ∙ link-parts .1)
 
     number-is : number ≡ linkRead rest .number
     number-is = ap (λ (l : List ℕ). getD l 0 0) link-same
 
-    fields-are : v ≡ fieldsOf (linkRead rest)
+    fields-are : v ≡ recordLink (linkRead rest)
     fields-are = ap fieldsAmong link-same
 
 module _ {file : List ℕ} {lines count : ℕ} {numbers : List ℕ} {links : List LinkFields} {previous : ℕ} {rest : List ℕ} {read : ℕ}
@@ -197,8 +197,8 @@ module _ {file : List ℕ} {lines count : ℕ} {numbers : List ℕ} {links : Lis
         let k : count - length (s .found) ≡ suc (count - read) = omega (arith, index) in
         s .left ∙ rw k (link-step lines (previousOf (read - 1) previous) rest (count - read) (s .found))
 
-    pub link-stop : (m : ℕ) (a : ReadingRecord) → (said x .kind ≡ 2 → ⊥) → m ≡ said x .refused → a ≡ record { refused = m; table = recordOf blankTable } →
-        a ≡ readingOf (readTable file)
+    pub link-stop : (m : ℕ) (a : ReadingRecord) → (said x .kind ≡ 2 → ⊥) → m ≡ said x .refused → a ≡ record { refused = m; table = recordTable blankTable } →
+        a ≡ recordReading (readTable file)
     link-stop m a o p f =
         stopped (readTable file) (link-met lines (previousOf (read - 1) previous) rest) m _ (said x) (saying 2 (linkValues (linkRead rest))) a next-link
         (said-link ∙ link-said lines (previousOf (read - 1) previous) rest) o p f
@@ -210,7 +210,7 @@ module _ {file : List ℕ} {lines count : ℕ} {numbers : List ℕ} {links : Lis
       number-here : number ≡ linkRead rest .number
       number-here = number-is lines (previousOf (read - 1) previous) rest x number v said-link q
 
-      fields-here : v ≡ fieldsOf (linkRead rest)
+      fields-here : v ≡ recordLink (linkRead rest)
       fields-here = fields-are lines (previousOf (read - 1) previous) rest x number v said-link q
 
       passed : link-met lines (previousOf (read - 1) previous) rest ≡ 0
@@ -231,7 +231,7 @@ module _ {file : List ℕ} {lines count : ℕ} {numbers : List ℕ} {links : Lis
             before = rw longer;
             within = omega arith;
             numbered = rw (s .numbered, ← index, number-here) (entries-more 0 (λ (u : VirtualLink). u .number) 256 (s .found) (linkRead rest) (omega (arith, s .few, index)));
-            filled = rw (s .filled, ← index, fields-here) (entries-more blankFields fieldsOf 256 (s .found) (linkRead rest) (omega (arith, s .few, index)));
+            filled = rw (s .filled, ← index, fields-here) (entries-more blankFields recordLink 256 (s .found) (linkRead rest) (omega (arith, s .few, index)));
             left = rw (longer, same, previous-more, number-here) further;
           }
 
@@ -254,8 +254,8 @@ module _ {file : List ℕ} {lines count : ℕ} {numbers : List ℕ} {links : Lis
     unfolding sizesDue sizes-met sizesRecordChecks
     said-sizes = e ∙ due-sizes rest read count lines previous not-first h
 
-    pub sizes-stop : (m : ℕ) (a : ReadingRecord) → (said x .kind ≡ 3 → ⊥) → m ≡ said x .refused → a ≡ record { refused = m; table = recordOf blankTable } →
-        a ≡ readingOf (readTable file)
+    pub sizes-stop : (m : ℕ) (a : ReadingRecord) → (said x .kind ≡ 3 → ⊥) → m ≡ said x .refused → a ≡ record { refused = m; table = recordTable blankTable } →
+        a ≡ recordReading (readTable file)
     sizes-stop m a o p f = stopped (readTable file) sizes-met m table-read (said x) (saying 3 (sizesRead rest)) a sizes-step said-sizes o p f
 
     module _ (a b c d f g i j : ℕ) (q : x ≡ Sizes a b c d f g i j) where
@@ -272,6 +272,6 @@ module _ {file : List ℕ} {lines count : ℕ} {numbers : List ℕ} {links : Lis
 
       pub read-whole : _≡_ {A = ReadingRecord}
           (record { refused = 0; table = record { lines = lines; count = count; numbers = numbers; links = links; sizes = a ∷ b ∷ c ∷ d ∷ f ∷ g ∷ i ∷ j ∷ [] } })
-          (readingOf (readTable file))
-      unfolding recordOf table-read
+          (recordReading (readTable file))
+      unfolding recordTable table-read
       read-whole = rw (sizes-step ∙ go-is sizes-met table-read (sizes-parts .0), sizes-same, all-found, s .numbered, s .filled)

@@ -7,28 +7,28 @@ use types.Run.{OneOf, miss}
 use denote.Enum.Declared.{tagOf}
 use Rattle.model.specs.Table.{blankTable}
 use Rattle.table.specs.declared.VirtualLink.{VirtualLink as LinkFields}
-use Rattle.record_reader.specs.declared.Record.{Record}
-use Rattle.record_reader.specs.declared.Record.the-variants.{Counts, Link, Sizes, Refused}
+use Rattle.table_record_reader.specs.declared.Record.{Record}
+use Rattle.table_record_reader.specs.declared.Record.the-variants.{Counts, Link, Sizes, Refused}
 use Rattle.table_file.specs.declared.Reading.{Reading as ReadingRecord}
 use Rattle.table_file.specs.declared.steps.Step.{Step}
-use Rattle.record_reader.specs.Records.{said}
-use Rattle.table_file.specs.Steps.{stopStep, countsStep, linkStep, stepOf, endedOf}
-use Rattle.table.specs.View.{recordOf}
-use Rattle.record_reader.proofs.Record.{the-type}
+use Rattle.table_record_reader.specs.Records.{said}
+use Rattle.table_file.specs.Steps.{stopStep, countsStep, linkStep, stepAfter, endedAfter}
+use Rattle.table.specs.View.{recordTable}
+use Rattle.table_record_reader.proofs.Record.{the-type}
 
 -- ---- which step it is
 module _ (x : Record) (read : ℕ) (before : Step) where
-  pub step-counts : read ≡ 0 → stepOf x read before ≡ countsStep x before
-  unfolding stepOf
+  pub step-counts : read ≡ 0 → stepAfter x read before ≡ countsStep x before
+  unfolding stepAfter
   step-counts z = rw (eq-eqb read 0 z)
 
   module _ (z : read ≡ 0 → ⊥) where
-    pub step-link : read ≤ before .count → stepOf x read before ≡ linkStep x read before
-    unfolding stepOf
+    pub step-link : read ≤ before .count → stepAfter x read before ≡ linkStep x read before
+    unfolding stepAfter
     step-link h = rw (ne-eqb read 0 z, le-ltb (before .count) read h)
 
-    pub step-sizes : before .count < read → stepOf x read before ≡ stopStep (said x .refused) before
-    unfolding stepOf
+    pub step-sizes : before .count < read → stepAfter x read before ≡ stopStep (said x .refused) before
+    unfolding stepAfter
     step-sizes h = rw (ne-eqb read 0 z, lt-ltb (before .count) read h)
 
 -- ---- the step of each record
@@ -60,12 +60,12 @@ module _ (step : Step) (numbers : List ℕ) (links : List LinkFields) where
   pub ended-sizes : (x : Record) (a b c d f g h i : ℕ) → x ≡ Sizes a b c d f g h i
       → _≡_ {A = ReadingRecord}
       (record { refused = 0; table = record { lines = step .lines; count = step .count; numbers = numbers; links = links; sizes = a ∷ b ∷ c ∷ d ∷ f ∷ g ∷ h ∷ i ∷ [] } })
-      (endedOf x step numbers links)
-  unfolding endedOf
+      (endedAfter x step numbers links)
+  unfolding endedAfter
   ended-sizes x a b c d f g h i e = rw e
 
-  pub ended-else : (x : Record) → OneOf (0 ∷ 1 ∷ 3 ∷ []) (tagOf the-type x) → _≡_ {A = ReadingRecord} (record { refused = step .refused; table = recordOf blankTable }) (endedOf x step numbers links)
-  unfolding endedOf
+  pub ended-else : (x : Record) → OneOf (0 ∷ 1 ∷ 3 ∷ []) (tagOf the-type x) → _≡_ {A = ReadingRecord} (record { refused = step .refused; table = recordTable blankTable }) (endedAfter x step numbers links)
+  unfolding endedAfter
   ended-else (Counts lines n) o = refl
   ended-else (Link number v) o = refl
   ended-else (Sizes a b c d f g h i) o = absurd (miss (0 ∷ 1 ∷ 3 ∷ []) 2 tt o)

@@ -9,14 +9,14 @@ use borrow.Author.Tests.{ltb-true, ltb-false}
 use lib.ListN.{set, drop, replicate}
 use Rattle.model.specs.TableFile.{readTable}
 use Rattle.table.specs.declared.VirtualLink.{VirtualLink as LinkFields}
-use Rattle.record_reader.specs.declared.Record.{Record}
-use Rattle.record_reader.specs.declared.Record.the-variants.{Counts, Link, Sizes, Refused}
+use Rattle.table_record_reader.specs.declared.Record.{Record}
+use Rattle.table_record_reader.specs.declared.Record.the-variants.{Counts, Link, Sizes, Refused}
 use Rattle.table_file.specs.declared.Reading.{Reading as ReadingRecord}
 use Rattle.table_file.specs.declared.steps.Step.{Step}
 use Rattle.table.specs.View.{blankFields}
-use Rattle.record_reader.specs.Records.{said, dueAt}
-use Rattle.table_file.specs.Answers.{readingOf}
-use Rattle.table_file.specs.Steps.{firstStep, stopStep, countsStep, linkStep, stepOf, endedOf}
+use Rattle.table_record_reader.specs.Records.{said, dueAt}
+use Rattle.table_file.specs.Answers.{recordReading}
+use Rattle.table_file.specs.Steps.{firstStep, stopStep, countsStep, linkStep, stepAfter, endedAfter}
 use Rattle.table_file.proofs.Taken.{step-counts, step-link, step-sizes}
 use Rattle.table_file.proofs.ReadSteps.{SoFar, counts-kind, counts-stop, counts-go, link-kind, link-stop, link-go, sizes-stop, read-whole}
 
@@ -45,13 +45,13 @@ pub record Gone (left : ℕ) (file rest : List ℕ) (read : ℕ) (step : Step) (
 
 -- ---- the counts
 module _ (file : List ℕ) (x : Record) (next : Step) (e : said x ≡ dueAt file 0 0 0 0) (p : next ≡ countsStep x firstStep) where
-  first-stops : (y : Record) → x ≡ y → (numbers : List ℕ) (links : List LinkFields) (a : ReadingRecord) → next .taken ≡ 0 → a ≡ endedOf x next numbers links → a ≡ readingOf (readTable file)
-  unfolding countsStep endedOf said
+  first-stops : (y : Record) → x ≡ y → (numbers : List ℕ) (links : List LinkFields) (a : ReadingRecord) → next .taken ≡ 0 → a ≡ endedAfter x next numbers links → a ≡ recordReading (readTable file)
+  unfolding countsStep endedAfter said
   first-stops (Counts lines n) q numbers links a z f = absurd (omega (arith, ap (λ (s : Step). s .taken) p, ap (λ (y : Record). countsStep y firstStep .taken) q, z))
   first-stops (Link number v) q numbers links a z f = absurd (omega (arith, ap (λ (y : Record). said y .kind) q, counts-kind file x e (λ k. omega (arith, ap (λ (y : Record). said y .kind) q, k))))
   first-stops (Sizes b c d g h i j k) q numbers links a z f = absurd (omega (arith, ap (λ (y : Record). said y .kind) q, counts-kind file x e (λ k. omega (arith, ap (λ (y : Record). said y .kind) q, k))))
   first-stops (Refused n) q numbers links a z f =
-      counts-stop file x (next .refused) a e (λ k. omega (arith, ap (λ (y : Record). said y .kind) q, k)) (ap (λ (s : Step). s .refused) p ∙ ap (λ (y : Record). countsStep y firstStep .refused) q ∙ sym (ap (λ (y : Record). said y .refused) q)) (f ∙ ap (λ (y : Record). endedOf y next numbers links) q)
+      counts-stop file x (next .refused) a e (λ k. omega (arith, ap (λ (y : Record). said y .kind) q, k)) (ap (λ (s : Step). s .refused) p ∙ ap (λ (y : Record). countsStep y firstStep .refused) q ∙ sym (ap (λ (y : Record). said y .refused) q)) (f ∙ ap (λ (y : Record). endedAfter y next numbers links) q)
 
   first-goes : (y : Record) → x ≡ y → (next .taken ≡ 0 → ⊥) → Gone 258 file file 0 next (replicate 256 0) (replicate 256 blankFields)
   unfolding countsStep
@@ -73,13 +73,13 @@ module _ (file : List ℕ) (x : Record) (next : Step) (e : said x ≡ dueAt file
 module _ (file rest : List ℕ) (read : ℕ) (step : Step) (numbers : List ℕ) (links : List LinkFields) (s : SoFar file (step .lines) (step .count) numbers links (step .number) rest read)
     (x : Record) (e : said x ≡ dueAt rest read (step .count) (step .lines) (step .number)) (next : Step) where
   module _ (h : read ≤ step .count) (p : next ≡ linkStep x read step) where
-    link-stops : (y : Record) → x ≡ y → (a : ReadingRecord) → next .taken ≡ 0 → a ≡ endedOf x next numbers links → a ≡ readingOf (readTable file)
-    unfolding linkStep endedOf said
+    link-stops : (y : Record) → x ≡ y → (a : ReadingRecord) → next .taken ≡ 0 → a ≡ endedAfter x next numbers links → a ≡ recordReading (readTable file)
+    unfolding linkStep endedAfter said
     link-stops (Counts lines n) q a z f = absurd (omega (arith, ap (λ (y : Record). said y .kind) q, link-kind s x e h (λ k. omega (arith, ap (λ (y : Record). said y .kind) q, k))))
     link-stops (Link number v) q a z f = absurd (omega (arith, ap (λ (s : Step). s .taken) p, ap (λ (y : Record). linkStep y read step .taken) q, z))
     link-stops (Sizes b c d g i j k l) q a z f = absurd (omega (arith, ap (λ (y : Record). said y .kind) q, link-kind s x e h (λ k. omega (arith, ap (λ (y : Record). said y .kind) q, k))))
     link-stops (Refused n) q a z f =
-        link-stop s x e h (next .refused) a (λ k. omega (arith, ap (λ (y : Record). said y .kind) q, k)) (ap (λ (s : Step). s .refused) p ∙ ap (λ (y : Record). linkStep y read step .refused) q ∙ sym (ap (λ (y : Record). said y .refused) q)) (f ∙ ap (λ (y : Record). endedOf y next numbers links) q)
+        link-stop s x e h (next .refused) a (λ k. omega (arith, ap (λ (y : Record). said y .kind) q, k)) (ap (λ (s : Step). s .refused) p ∙ ap (λ (y : Record). linkStep y read step .refused) q ∙ sym (ap (λ (y : Record). said y .refused) q)) (f ∙ ap (λ (y : Record). endedAfter y next numbers links) q)
 
     link-goes : (left : ℕ) → left + read ≡ 258 → (y : Record) → x ≡ y → (next .taken ≡ 0 → ⊥) → Gone left file rest read next numbers links
     unfolding linkStep
@@ -97,19 +97,19 @@ module _ (file rest : List ℕ) (read : ℕ) (step : Step) (numbers : List ℕ) 
     link-goes left t (Sizes b c d g i j k l) q z = absurd (z (ap (λ (u : Step). u .taken) p ∙ ap (λ (y : Record). linkStep y read step .taken) q))
     link-goes left t (Refused n) q z = absurd (z (ap (λ (u : Step). u .taken) p ∙ ap (λ (y : Record). linkStep y read step .taken) q))
 
-  sizes-stops : step .count < read → next ≡ stopStep (said x .refused) step → (y : Record) → x ≡ y → (a : ReadingRecord) → a ≡ endedOf x next numbers links → a ≡ readingOf (readTable file)
-  unfolding endedOf said
+  sizes-stops : step .count < read → next ≡ stopStep (said x .refused) step → (y : Record) → x ≡ y → (a : ReadingRecord) → a ≡ endedAfter x next numbers links → a ≡ recordReading (readTable file)
+  unfolding endedAfter said
   sizes-stops h p (Sizes b c d g i j k l) q a f =
-      f ∙ ap (λ (u : Step). endedOf x u numbers links) p ∙ ap (λ (y : Record). endedOf y (stopStep (said x .refused) step) numbers links) q ∙ read-whole s x e h b c d g i j k l q
+      f ∙ ap (λ (u : Step). endedAfter x u numbers links) p ∙ ap (λ (y : Record). endedAfter y (stopStep (said x .refused) step) numbers links) q ∙ read-whole s x e h b c d g i j k l q
   sizes-stops h p (Counts lines n) q a f =
-      sizes-stop s x e h (next .refused) a (λ k. omega (arith, ap (λ (y : Record). said y .kind) q, k)) (ap (λ (u : Step). u .refused) p) (f ∙ ap (λ (y : Record). endedOf y next numbers links) q)
+      sizes-stop s x e h (next .refused) a (λ k. omega (arith, ap (λ (y : Record). said y .kind) q, k)) (ap (λ (u : Step). u .refused) p) (f ∙ ap (λ (y : Record). endedAfter y next numbers links) q)
   sizes-stops h p (Link number v) q a f =
-      sizes-stop s x e h (next .refused) a (λ k. omega (arith, ap (λ (y : Record). said y .kind) q, k)) (ap (λ (u : Step). u .refused) p) (f ∙ ap (λ (y : Record). endedOf y next numbers links) q)
+      sizes-stop s x e h (next .refused) a (λ k. omega (arith, ap (λ (y : Record). said y .kind) q, k)) (ap (λ (u : Step). u .refused) p) (f ∙ ap (λ (y : Record). endedAfter y next numbers links) q)
   sizes-stops h p (Refused n) q a f =
-      sizes-stop s x e h (next .refused) a (λ k. omega (arith, ap (λ (y : Record). said y .kind) q, k)) (ap (λ (u : Step). u .refused) p) (f ∙ ap (λ (y : Record). endedOf y next numbers links) q)
+      sizes-stop s x e h (next .refused) a (λ k. omega (arith, ap (λ (y : Record). said y .kind) q, k)) (ap (λ (u : Step). u .refused) p) (f ∙ ap (λ (y : Record). endedAfter y next numbers links) q)
 
-  module _ (z : read ≡ 0 → ⊥) (p : next ≡ stepOf x read step) where
-    later-stops : (b : Bool) → ltb (step .count) read ≡ b → (a : ReadingRecord) → next .taken ≡ 0 → a ≡ endedOf x next numbers links → a ≡ readingOf (readTable file)
+  module _ (z : read ≡ 0 → ⊥) (p : next ≡ stepAfter x read step) where
+    later-stops : (b : Bool) → ltb (step .count) read ≡ b → (a : ReadingRecord) → next .taken ≡ 0 → a ≡ endedAfter x next numbers links → a ≡ recordReading (readTable file)
     later-stops true t a n f = let h = ltb-true (step .count) read t in sizes-stops h (p ∙ step-sizes x read step z h) x refl a f
     later-stops false t a n f = let h = ltb-false (step .count) read t in link-stops h (p ∙ step-link x read step z h) x refl a n f
 
@@ -122,15 +122,15 @@ pub begins : (file : List ℕ) (step : Step) → step ≡ firstStep → Turn 258
 begins file step e = record { turns = refl; held = (refl, (e, (refl, ap (λ (s : Step). replicate 256 (s .link)) e))) }
 
 pub stops : (left : ℕ) (file rest : List ℕ) (read : ℕ) (step : Step) (numbers : List ℕ) (links : List LinkFields) → Turn left file rest read step numbers links
-    → (x : Record) → said x ≡ dueAt rest read (step .count) (step .lines) (step .number) → (next : Step) → next ≡ stepOf x read step
-    → (a : ReadingRecord) → next .taken ≡ 0 → a ≡ endedOf x next numbers links → a ≡ readingOf (readTable file)
+    → (x : Record) → said x ≡ dueAt rest read (step .count) (step .lines) (step .number) → (next : Step) → next ≡ stepAfter x read step
+    → (a : ReadingRecord) → next .taken ≡ 0 → a ≡ endedAfter x next numbers links → a ≡ recordReading (readTable file)
 stops left file rest zero step numbers links t x e next p a z f =
     let due : said x ≡ dueAt file 0 0 0 0 = e ∙ (λ i. dueAt (t .held .0 i) 0 (t .held .1 .0 i .count) (t .held .1 .0 i .lines) (t .held .1 .0 i .number)) in
     first-stops file x next due (p ∙ step-counts x 0 step refl ∙ ap (countsStep x) (t .held .1 .0)) x refl numbers links a z f
 stops left file rest (suc k) step numbers links t x e next p a z f = later-stops file rest (suc k) step numbers links (t .held) x e next (λ q. omega arith) p (ltb (step .count) (suc k)) refl a z f
 
 pub goes : (left : ℕ) (file rest : List ℕ) (read : ℕ) (step : Step) (numbers : List ℕ) (links : List LinkFields) → Turn left file rest read step numbers links
-    → (x : Record) → said x ≡ dueAt rest read (step .count) (step .lines) (step .number) → (next : Step) → next ≡ stepOf x read step
+    → (x : Record) → said x ≡ dueAt rest read (step .count) (step .lines) (step .number) → (next : Step) → next ≡ stepAfter x read step
     → (next .taken ≡ 0 → ⊥) → Gone left file rest read next numbers links
 goes left file rest zero step numbers links t x e next p z =
     let due : said x ≡ dueAt file 0 0 0 0 = e ∙ (λ i. dueAt (t .held .0 i) 0 (t .held .1 .0 i .count) (t .held .1 .0 i .lines) (t .held .1 .0 i .number)) in

@@ -4,13 +4,13 @@ use mathlib.Core.List.{List}
 use Prim.Native.Nat.{ℕ}
 use Rattle.model.specs.Table.{Table}
 use Rattle.model.specs.TableFile.{Reading, writeTable}
-use Rattle.table.specs.View.{recordOf}
+use Rattle.table.specs.View.{recordTable}
 use Rattle.table_file.specs.declared.Reading.{Reading as ReadingRecord}
 use Rattle.table_file.specs.declared.Writing.{Writing}
 
 -- what the reader of a file answers: the record of the model's table
-abbrev pub readingOf : Reading → ReadingRecord
-readingOf r = record { refused = r .refused; table = recordOf (r .table) }
+abbrev pub recordReading : Reading → ReadingRecord
+recordReading r = record { refused = r .refused; table = recordTable (r .table) }
 
 -- the answer and the whole output afterwards are those of the model
 pub record Wrote (t : Table) (before after : List ℕ) (r : Writing) : Type 0 where

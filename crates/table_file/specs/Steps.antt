@@ -5,12 +5,12 @@ use Prim.Native.Nat.{ℕ, _-_}
 use lib.Dec.{eqb, ltb}
 use Rattle.model.specs.Table.{blankTable}
 use Rattle.table.specs.declared.VirtualLink.{VirtualLink as LinkFields}
-use Rattle.record_reader.specs.declared.Record.{Record}
-use Rattle.record_reader.specs.declared.Record.the-variants.{Counts, Link, Sizes, Refused}
+use Rattle.table_record_reader.specs.declared.Record.{Record}
+use Rattle.table_record_reader.specs.declared.Record.the-variants.{Counts, Link, Sizes, Refused}
 use Rattle.table_file.specs.declared.Reading.{Reading as ReadingRecord}
 use Rattle.table_file.specs.declared.steps.Step.{Step}
-use Rattle.record_reader.specs.Records.{said}
-use Rattle.table.specs.View.{blankFields, recordOf}
+use Rattle.table_record_reader.specs.Records.{said}
+use Rattle.table.specs.View.{blankFields, recordTable}
 
 abbrev pub firstStep : Step
 firstStep = record { refused = 0; taken = 0; count = 0; lines = 0; at = 0; number = 0; link = blankFields }
@@ -31,13 +31,13 @@ linkStep (Sizes a b c d e f g h) read before = stopStep (said (Sizes a b c d e f
 linkStep (Refused n) read before = stopStep (said (Refused n) .refused) before
 
 -- by the number of records read
-unfoldable pub stepOf : Record → ℕ → Step → Step
-stepOf next read before = cond (eqb read 0) (countsStep next before) (cond (ltb (before .count) read) (stopStep (said next .refused) before) (linkStep next read before))
+unfoldable pub stepAfter : Record → ℕ → Step → Step
+stepAfter next read before = cond (eqb read 0) (countsStep next before) (cond (ltb (before .count) read) (stopStep (said next .refused) before) (linkStep next read before))
 
 -- the sizes come last, or else the reader stops with the refusal
-unfoldable pub endedOf : Record → Step → List ℕ → List LinkFields → ReadingRecord
-endedOf (Sizes a b c d e f g h) step numbers links =
+unfoldable pub endedAfter : Record → Step → List ℕ → List LinkFields → ReadingRecord
+endedAfter (Sizes a b c d e f g h) step numbers links =
     record { refused = 0; table = record { lines = step .lines; count = step .count; numbers = numbers; links = links; sizes = a ∷ b ∷ c ∷ d ∷ e ∷ f ∷ g ∷ h ∷ [] } }
-endedOf (Counts lines n) step numbers links = record { refused = step .refused; table = recordOf blankTable }
-endedOf (Link number v) step numbers links = record { refused = step .refused; table = recordOf blankTable }
-endedOf (Refused n) step numbers links = record { refused = step .refused; table = recordOf blankTable }
+endedAfter (Counts lines n) step numbers links = record { refused = step .refused; table = recordTable blankTable }
+endedAfter (Link number v) step numbers links = record { refused = step .refused; table = recordTable blankTable }
+endedAfter (Refused n) step numbers links = record { refused = step .refused; table = recordTable blankTable }

@@ -6,8 +6,8 @@ use table::Table;
 ghost use mathlib.Core.Path.{_≡_};
 ghost use Rattle.model.specs.Table.{blankTable};
 ghost use Rattle.model.specs.TableFile.{readTable};
-ghost use Rattle.table.specs.View.{viewOf, recordOf};
-ghost use Rattle.table_file.specs.Answers.{readingOf, Wrote};
+ghost use Rattle.table.specs.View.{viewTable, recordTable};
+ghost use Rattle.table_file.specs.Answers.{recordReading, Wrote};
 
 // The number of a refusal and no table, which is the blank one; or 0 and the table.
 pub struct Reading {
@@ -23,7 +23,7 @@ pub struct Writing {
 
 // No table beside the number of the refusal.
 fn refused(number: u32) -> Reading
-    ensures { λ r. ⌜ r ≡ record { refused = number; table = recordOf blankTable } ⌝ }
+    ensures { λ r. ⌜ r ≡ record { refused = number; table = recordTable blankTable } ⌝ }
 {
     Reading {
         refused: number,
@@ -34,7 +34,7 @@ fn refused(number: u32) -> Reading
 // The table of a file, record by record; entries behind its count are blank.
 // A refusal, 1 to 7, stands beside the blank table.
 pub fn read(file: &[u8]) -> Reading
-    ensures { λ r. ⌜ r ≡ readingOf (readTable (now (file .entry))) ⌝ }
+    ensures { λ r. ⌜ r ≡ recordReading (readTable (now (file .entry))) ⌝ }
 {
     walk::read(file)
 }
@@ -42,7 +42,7 @@ pub fn read(file: &[u8]) -> Reading
 // Writes the file of a table into the lent output, and answers its length; bytes behind it stay.
 // A refusal, 3 to 6 or 9, writes to no byte.
 pub fn write(t: Table, out: &mut [u8]) -> Writing
-    ensures { λ r. ⌜ Wrote (viewOf t) (now (out .entry)) (now (out .exit)) r ⌝ }
+    ensures { λ r. ⌜ Wrote (viewTable t) (now (out .entry)) (now (out .exit)) r ⌝ }
 {
     let refused = table::check(t);
     if refused != 0 {
@@ -59,9 +59,9 @@ pub fn write(t: Table, out: &mut [u8]) -> Writing
         };
     }
     let sizes = t.sizes;
-    record_writer::counts_record(out, t.lines, t.count);
-    record_writer::link_records(out, t);
-    record_writer::sizes_record(out, at, sizes);
+    table_record_writer::counts_record(out, t.lines, t.count);
+    table_record_writer::link_records(out, t);
+    table_record_writer::sizes_record(out, at, sizes);
     Writing {
         refused: 0,
         written: at + 36,

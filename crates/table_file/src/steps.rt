@@ -1,10 +1,10 @@
 // What the reader holds of each record that it takes in, and its answer where it stops.
 use crate::Reading;
-use record_reader::Record;
 use table::Table;
 use table::VirtualLink;
+use table_record_reader::Record;
 ghost use mathlib.Core.Path.{_≡_};
-ghost use Rattle.table_file.specs.Steps.{firstStep, stopStep, stepOf, endedOf};
+ghost use Rattle.table_file.specs.Steps.{firstStep, stopStep, stepAfter, endedAfter};
 
 // The refusal, 0 if none; the bytes that the record took, 0 where the reader stops; the counts;
 // the link with its number and its place.
@@ -49,11 +49,11 @@ fn stop(refused: u32, before: Step) -> Step
 
 // The counts stand at place 0 with no link, which is blank there already.
 pub(crate) fn taken_in(next: Record, read: usize, before: Step) -> Step
-    ensures { λ r. ⌜ r ≡ stepOf next read before ⌝ }
+    ensures { λ r. ⌜ r ≡ stepAfter next read before ⌝ }
 {
     if read == 0 {
         let Record::Counts(lines, count) = next else {
-            return stop(record_reader::refusal_of(next), before);
+            return stop(table_record_reader::refusal_of(next), before);
         };
         let link = before.link;
         return Step {
@@ -67,10 +67,10 @@ pub(crate) fn taken_in(next: Record, read: usize, before: Step) -> Step
         };
     }
     if numbers::u16_as_usize(before.count) < read {
-        return stop(record_reader::refusal_of(next), before);
+        return stop(table_record_reader::refusal_of(next), before);
     }
     let Record::Link(number, link) = next else {
-        return stop(record_reader::refusal_of(next), before);
+        return stop(table_record_reader::refusal_of(next), before);
     };
     Step {
         refused: 0,
@@ -90,7 +90,7 @@ pub(crate) fn ended(
     numbers: [u16; 256],
     links: [VirtualLink; 256],
 ) -> Reading
-    ensures { λ r. ⌜ r ≡ endedOf next step numbers links ⌝ }
+    ensures { λ r. ⌜ r ≡ endedAfter next step numbers links ⌝ }
 {
     let Record::Sizes(a, b, c, d, e, f, g, h) = next else {
         return crate::refused(step.refused);

@@ -1,13 +1,13 @@
 // The walk over the table file: the bytes not yet read, and the number of records read.
 use crate::Reading;
 use crate::steps;
-use record_reader::Record;
+use table_record_reader::Record;
 ghost use mathlib.Core.Path.{_≡_};
 ghost use Prim.Native.Nat.{_+_, _<_, _^_};
 ghost use lib.ListN.{drop};
 ghost use Rattle.model.specs.TableFile.{readTable};
-ghost use Rattle.record_reader.specs.Records.{said, dueAt};
-ghost use Rattle.table_file.specs.Answers.{readingOf};
+ghost use Rattle.table_record_reader.specs.Records.{said, dueAt};
+ghost use Rattle.table_file.specs.Answers.{recordReading};
 
 pub(crate) struct Walk<'a> {
     pub(crate) rest: &'a [u8],
@@ -37,7 +37,7 @@ fn start<'a>(file: &'a [u8]) -> Walk<'a>
 fn next<'a>(w: Walk<'a>, count: u16, lines: u16, previous: u16) -> Record
     ensures { λ r. ⌜ said r ≡ dueAt (now (w .entry .rest)) (w .entry .read) count lines previous ⌝ }
 {
-    record_reader::record_at(w.rest, w.read, count, lines, previous)
+    table_record_reader::record_at(w.rest, w.read, count, lines, previous)
 }
 
 fn advanced<'a>(w: Walk<'a>, taken: usize) -> Walk<'a>
@@ -53,7 +53,7 @@ fn advanced<'a>(w: Walk<'a>, taken: usize) -> Walk<'a>
 
 // The table of a file: the loop's state is the walk and what was taken in last. Callers need no walk.
 pub(crate) fn read(file: &[u8]) -> Reading
-    ensures { λ r. ⌜ r ≡ readingOf (readTable (now (file .entry))) ⌝ }
+    ensures { λ r. ⌜ r ≡ recordReading (readTable (now (file .entry))) ⌝ }
 {
     let mut step = steps::first_step();
     let mut numbers = [0u16; 256];

@@ -2,13 +2,13 @@ use mathlib.Core.Path.{_≡_, sym, _∙_}
 use Prim.Native.Nat.{_-_, _≤_}
 use borrow.Author.Needs.{needs}
 use native.Mathlib.Omega.{arith}
-use Rattle.table.specs.View.{viewOf}
+use Rattle.table.specs.View.{viewTable}
 use Rattle.bounds.proofs.Answering.{fit-table, Known, known-none, known-more, table-refused, hold-refused, all-known}
 use Rattle.bounds.proofs.bounds_of.Statement.{statement}
 use Rattle.bounds.proofs.bounds_of.Tie as tie
 
 abbrev Inv-loop : tie.InvT-loop
-Inv-loop t number bounds₀ holds₀ p₀ bounds holds p = (p ≤ 8) × Known (viewOf t) bounds holds p
+Inv-loop t number bounds₀ holds₀ p₀ bounds holds p = (p ≤ 8) × Known (viewTable t) bounds holds p
 
 abbrev μ-loop : tie.MeasureT-loop
 μ-loop t number bounds₀ holds₀ p₀ bounds holds p = 8 - p
@@ -22,10 +22,10 @@ refused-requires c κs = search needs
 returns : tie.Need-returns Inv-loop μ-loop
 returns c =
     let s = c .before .before .before in
-    table-refused (viewOf (s .args .t)) (c .before .before .check .result) (c .before .before .check .ensures) (c .before .if1 .taken) (c .refused .result) (c .refused .ensures)
+    table-refused (viewTable (s .args .t)) (c .before .before .check .result) (c .before .before .check .ensures) (c .before .if1 .taken) (c .refused .result) (c .refused .ensures)
 
 loop-holds : tie.Need-loop-holds Inv-loop μ-loop
-loop-holds c = (omega arith, known-none (viewOf (c .before .before .args .t)))
+loop-holds c = (omega arith, known-none (viewTable (c .before .before .args .t)))
 
 cast-limits-of : tie.Need-cast-limits-of Inv-loop μ-loop
 cast-limits-of c = omega arith
@@ -44,7 +44,7 @@ returns-2 c =
     let s = c .before .before .before .before .before .before .before .before in
     let k = c .before .before .before .before .before .before .before .check in
     let l = c .before .before .before .limits-of in
-    hold-refused (viewOf (s .args .t)) (sym (k .ensures) ∙ c .before .before .before .before .before .before .if1 .left) (c .before .before .before .before .before .loop .p) (l .result) (omega arith) (l .ensures) (c .before .if2 .taken) (c .refused2 .result) (c .refused2 .ensures)
+    hold-refused (viewTable (s .args .t)) (sym (k .ensures) ∙ c .before .before .before .before .before .before .if1 .left) (c .before .before .before .before .before .loop .p) (l .result) (omega arith) (l .ensures) (c .before .if2 .taken) (c .refused2 .result) (c .refused2 .ensures)
 
 mul-bounds : tie.Need-mul-bounds Inv-loop μ-loop
 mul-bounds c = omega arith
@@ -69,7 +69,7 @@ loop-again c =
     let s = c .before .before .before .before .before .before .before in
     let o = c .before .before .before .before .loop in
     let l = c .before .before .limits-of in
-    (omega arith, known-more (viewOf (s .args .t)) (o .bounds) (o .holds) (o .p) (o .inv .1) (omega arith) (l .result) (l .ensures) (c .if2 .left))
+    (omega arith, known-more (viewTable (s .args .t)) (o .bounds) (o .holds) (o .p) (o .inv .1) (omega arith) (l .result) (l .ensures) (c .if2 .left))
 
 returns-3 : tie.Need-returns-3 Inv-loop μ-loop
 returns-3 c =
@@ -77,7 +77,7 @@ returns-3 c =
     let k = c .before .before .before .check in
     let o = c .before .loop in
     let e : o .p ≡ 8 = omega arith in
-    all-known (viewOf (s .args .t)) (o .bounds) (o .holds) (rw e at (o .inv .1)) (sym (k .ensures) ∙ c .before .before .if1 .left)
+    all-known (viewTable (s .args .t)) (o .bounds) (o .holds) (rw e at (o .inv .1)) (sym (k .ensures) ∙ c .before .before .if1 .left)
 
 pub bounds-of-spec : {M : Type 1} → statement M
 bounds-of-spec =

@@ -1,7 +1,7 @@
 use borrow.Author.Needs.{needs}
 use Prim.Native.Nat.{_+_, _*_}
 use native.Mathlib.Omega.{arith}
-use Rattle.table.specs.View.{viewOf}
+use Rattle.table.specs.View.{viewTable}
 use Rattle.table.proofs.Shape.{sized}
 use Rattle.table_file.proofs.Answers.{table-refused, no-room, wrote-all, count-few, length-shown, file-laid}
 use Rattle.table_file.proofs.write.Statement.{statement}
@@ -16,7 +16,7 @@ check-requires c κs = search needs
 returns : tie.Need-returns
 returns c =
     let start = c .before .before .before in
-    table-refused (viewOf (start .args .t)) (start .args .out .now) _ (c .before .check .ensures) (c .if1 .taken)
+    table-refused (viewTable (start .args .t)) (start .args .out .now) _ (c .before .check .ensures) (c .if1 .taken)
 
 cast-at : tie.Need-cast-at
 cast-at c = search needs
@@ -33,7 +33,7 @@ add-if2 c = search needs
 returns-2 : tie.Need-returns-2
 returns-2 c =
     let start = c .before .before .before .before .before in
-    no-room (viewOf (start .args .t)) (start .args .out .now) _ (c .before .before .before .check .ensures) (c .before .before .if1 .left) (omega (arith, length-shown (start .args .t)))
+    no-room (viewTable (start .args .t)) (start .args .out .now) _ (c .before .before .before .check .ensures) (c .before .before .if1 .left) (omega (arith, length-shown (start .args .t)))
 
 link-records-requires : tie.Need-link-records-requires
 link-records-requires c κs = let few = count-few (c .before .before .before .before .before .before .before .before .before .before .before .args .t) _ (c .before .before .before .before .before .before .before .before .before .check .ensures) (c .before .before .before .before .before .before .before .before .if1 .left) in omega arith
@@ -53,7 +53,7 @@ returns-3 c =
     let t = start .args .t in
     let out = start .args .out .now in
     let n = length-shown t in
-    wrote-all (viewOf t) out _ (c .before .before .before .before .before .before .before .before .before .before .before .before .before .before .before .before .check .ensures) (c .before .before .before .before .before .before .before .before .before .before .before .before .before .before .before .if1 .left) (8 + 18 * t .count + 36) (c .before .before .sizes-record .last .0) (omega arith) (omega arith)
+    wrote-all (viewTable t) out _ (c .before .before .before .before .before .before .before .before .before .before .before .before .before .before .before .before .check .ensures) (c .before .before .before .before .before .before .before .before .before .before .before .before .before .before .before .if1 .left) (8 + 18 * t .count + 36) (c .before .before .sizes-record .last .0) (omega arith) (omega arith)
     (file-laid t out (c .before .before .before .before .before .before .before .before .before .before .counts-record .last .0) (c .before .before .before .before .before .before .link-records .last .0) (c .before .before .sizes-record .last .0) (sized t _ (start .good .0) .sizes) (omega arith)
     (c .before .before .before .before .before .before .before .before .before .before .counts-record .ensures) (c .before .before .before .before .before .before .link-records .ensures) (c .before .before .sizes-record .ensures))
 

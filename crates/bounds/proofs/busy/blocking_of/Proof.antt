@@ -1,5 +1,5 @@
 use native.Mathlib.Omega.{arith}
-use Rattle.arrivals.proofs.Views.{blocking-is}
+use Rattle.bounds_arrivals.proofs.Views.{blocking-is}
 use borrow.Author.Needs.{needs}
 use Rattle.bounds.proofs.busy.blocking_of.Statement.{statement}
 use Rattle.bounds.proofs.busy.blocking_of.Tie as tie

@@ -1,8 +1,8 @@
 use mathlib.Core.Path.{_∙_}
 use Prim.Native.Nat.{_-_}
 use native.Mathlib.Omega.{arith}
-use Rattle.table.specs.View.{viewOf}
-use Rattle.arrivals.proofs.Views.{longest-is}
+use Rattle.table.specs.View.{viewTable}
+use Rattle.bounds_arrivals.proofs.Views.{longest-is}
 use Rattle.bounds.proofs.Limiting.{none-of, some-of, limited-none, limited-idle, limited-busy, bound-fits, given-hold}
 use borrow.Author.Needs.{needs}
 use Rattle.bounds.proofs.limits.limits_of.Statement.{statement}
@@ -17,7 +17,7 @@ hold-of-requires c κs = search needs
 returns : tie.Need-returns
 returns c =
     let s = c .before .before .before in
-    limited-none (viewOf (s .args .t)) (s .args .p) (c .before .hold-of .result) (c .if1 .taken) (c .before .hold-of .ensures)
+    limited-none (viewTable (s .args .t)) (s .args .p) (c .before .hold-of .result) (c .if1 .taken) (c .before .hold-of .ensures)
 
 longest-requires : tie.Need-longest-requires
 longest-requires c κs = search needs
@@ -31,7 +31,7 @@ returns-2 : tie.Need-returns-2
 returns-2 c =
     let s = c .before .before .before .before .before in
     let g = c .before .longest in
-    limited-idle (viewOf (s .args .t)) (s .args .p) (c .before .before .before .hold-of .result) (c .before .before .before .hold-of .ensures)
+    limited-idle (viewTable (s .args .t)) (s .args .p) (c .before .before .before .hold-of .result) (c .before .before .before .hold-of .ensures)
     (none-of (s .args .t) (s .args .p) (g .result) (g .ensures .0 ∙ longest-is (s .args .t) (s .args .p)) (s .pre .0) (c .if2 .taken))
 
 sub-peak-of : tie.Need-sub-peak-of
@@ -43,7 +43,7 @@ peak-of-requires c κs =
     let g = c .before .longest in
     let h = c .before .before .before .hold-of in
     let b = c .before .before .before .before .blocking-of in (
-      given-hold (viewOf (s .args .t)) (s .args .p) (b .result) (g .result) (h .result) (h .ensures) (omega arith) (b .ensures .0) (g .ensures .0 ∙ longest-is (s .args .t) (s .args .p)) (omega arith) (omega arith),
+      given-hold (viewTable (s .args .t)) (s .args .p) (b .result) (g .result) (h .result) (h .ensures) (omega arith) (b .ensures .0) (g .ensures .0 ∙ longest-is (s .args .t) (s .args .p)) (omega arith) (omega arith),
       s .pre .0,
     )
 
@@ -60,7 +60,7 @@ cast-t11 c =
     let k = c .before .peak-of in
     omega (
       arith,
-      bound-fits (viewOf (s .args .t)) (s .args .p) (h .result) (h .ensures) (h .result - 1) (k .result .backlog) (k .result .window) (omega arith) (k .ensures) (h .ensures .smallest (omega arith))
+      bound-fits (viewTable (s .args .t)) (s .args .p) (h .result) (h .ensures) (h .result - 1) (k .result .backlog) (k .result .window) (omega arith) (k .ensures) (h .ensures .smallest (omega arith))
           (omega (arith, g .ensures .0 ∙ longest-is (s .args .t) (s .args .p), g .ensures .1)),
     )
 
@@ -76,7 +76,7 @@ returns-3 c =
     let h = c .before .before .before .before .before .before .hold-of in
     let g = c .before .before .before .before .longest in
     let k = c .before .before .peak-of in
-    limited-busy (viewOf (s .args .t)) (s .args .p) (h .result) (h .ensures) (h .result - 1) (k .result .backlog) (k .result .window) (omega arith) (k .ensures)
+    limited-busy (viewTable (s .args .t)) (s .args .p) (h .result) (h .ensures) (h .result - 1) (k .result .backlog) (k .result .window) (omega arith) (k .ensures)
     (some-of (s .args .t) (s .args .p) (g .result) (g .ensures .0 ∙ longest-is (s .args .t) (s .args .p)) (omega arith))
 
 pub limits-of-spec : {M : Type 1} → statement M

@@ -45,26 +45,26 @@ use denote.Exit.{yes}
 use denote.Triple.Clauses.{ensured, lasts}
 use Rattle.model.specs.Link.{VirtualLink, bag as bagOfLink}
 use Rattle.model.specs.Report.{blankAccount}
-use Rattle.policing.specs.declared.Account.{Account}
-use Rattle.policing.specs.declared.Checked.{Checked}
-use Rattle.policing.specs.Check.{accountRecord, checkOf}
+use Rattle.port_policing.specs.declared.Account.{Account}
+use Rattle.port_policing.specs.declared.Checked.{Checked}
+use Rattle.port_policing.specs.Check.{recordAccount, checkOf}
 use Rattle.port.specs.declared.Port.{Port}
 use Rattle.port.specs.declared.charging.Charged.{Charged}
 use Rattle.port.specs.Charging.{withAccounts}
 use Rattle.table.proofs.Table.Laws as Table′
-use Rattle.scheduler.proofs.Queue.Laws as Queue′
-use Rattle.scheduler.proofs.Sender.Laws as Sender′
-use Rattle.policing.proofs.Account as T
-use Rattle.policing.proofs.Account.Laws as T′
+use Rattle.port_scheduler.proofs.Queue.Laws as Queue′
+use Rattle.port_scheduler.proofs.Sender.Laws as Sender′
+use Rattle.port_policing.proofs.Account as T
+use Rattle.port_policing.proofs.Account.Laws as T′
 use Rattle.port.proofs.Port as P
 use Rattle.port.proofs.Port.Laws as P′
 use Rattle.port.proofs.charging.Charged as L
 use Rattle.port.proofs.charging.Charged.Laws as L′
 use Rattle.port.proofs.Element.{of-field, spot, elem, Lent, τ, lends-elem, elem-home}
-use Rattle.policing.proofs.charge as charge
-use Rattle.policing.proofs.charge.Symbol as charge-def
-use Rattle.policing.proofs.charge.Symbol.{name as #policing·charge}
-use Rattle.policing.proofs.charge.Met as charge-thm
+use Rattle.port_policing.proofs.charge as charge
+use Rattle.port_policing.proofs.charge.Symbol as charge-def
+use Rattle.port_policing.proofs.charge.Symbol.{name as #port-policing·charge}
+use Rattle.port_policing.proofs.charge.Met as charge-thm
 use Rattle.port.proofs.charging.charge_in.Key.{name as #port·charge-in}
 use Rattle.port.proofs.charging.charge_in as f
 use Rattle.port.proofs.charging.charge_in.Statement as stated
@@ -92,7 +92,7 @@ off = 28864
 
 -- what `getD` gives past the end, which is never read
 abbrev none : Account
-none = accountRecord blankAccount
+none = recordAccount blankAccount
 
 offset-fits : {i : ℕ} → i < 256 → i * 16 < 2 ^ 64
 offset-fits l = omega arith
@@ -197,7 +197,7 @@ module _ {M : Type 1} (𝓤 : URA M) (H : Heap 𝓤) (A : Atoms 𝓤) (W : Given
         nothing ! $ owned ! u64 (Is u64) (uint-makes 𝓤 H A W w64) time _ (refl, time-fits) $ fjoin ! $ owned ! u64 (Is u64) (uint-makes 𝓤 H A W w64) jitter _ (refl, jitter-fits) $ fjoin ! $ owned ! u64 (Is u64) (uint-makes 𝓤 H A W w64) bag _ (refl, bag-fits) $ fjoin ! $
         move ! (1 ∷ 0 ∷ []) $ fjoin ! $ move ! (1 ∷ 0 ∷ []) $ join ! $ frame ! $ done !
 
-  module _ (C : Calls 𝓤 H) (Λ : Loops 𝓤 H) (fm : FmC 𝓤 H (W .laws) C) (known : Triple 𝓤 (C #policing·charge) (Charge 𝓤 H A mem run)) where
+  module _ (C : Calls 𝓤 H) (Λ : Loops 𝓤 H) (fm : FmC 𝓤 H (W .laws) C) (known : Triple 𝓤 (C #port-policing·charge) (Charge 𝓤 H A mem run)) where
     walk : U64 i → Is P.the-row d (P′.lowered d ∷ []) → i < 256 → ent 𝓤 (onEntry 𝓤 H A f.signature tt tt x at) (WpFn 𝓤 H C Λ code.function (P′.lowered d ∷ vint w64 i ∷ vint w64 bag ∷ vint w64 jitter ∷ vint w64 time ∷ []) Post)
     walk i-fits p within =
         qed W (raw (onEntry 𝓤 H A f.signature tt tt x at) ∷ []) ∵ enter ! C Λ code.function (P′.lowered d ∷ vint w64 i ∷ vint w64 bag ∷ vint w64 jitter ∷ vint w64 time ∷ []) _ $
@@ -240,7 +240,7 @@ module _ {M : Type 1} (𝓤 : URA M) (H : Heap 𝓤) (A : Atoms 𝓤) (W : Given
         nothing ! $ keep ! (0 ∷ []) $ by ! (exits (zs .0) r e (made (zs .0) r p p′)))))))))))))))))))))))
 
 module _ {M : Type 1} (𝓤 : URA M) (H : Heap 𝓤) (A : Atoms 𝓤) (W : Given 𝓤 H A) (mem : Memory → SProp 𝓤) (run : Routine → Fun 𝓤) where
-  charge-in-walks : (C : Calls 𝓤 H) (Λ : Loops 𝓤 H) → FmC 𝓤 H (W .laws) C → Triple 𝓤 (C #policing·charge) (Charge 𝓤 H A mem run) → Walks 𝓤 H A f.ended stayed (WpFn 𝓤 H C Λ code.function) (f.clauses 𝓤 H A mem run)
+  charge-in-walks : (C : Calls 𝓤 H) (Λ : Loops 𝓤 H) → FmC 𝓤 H (W .laws) C → Triple 𝓤 (C #port-policing·charge) (Charge 𝓤 H A mem run) → Walks 𝓤 H A f.ended stayed (WpFn 𝓤 H C Λ code.function) (f.clauses 𝓤 H A mem run)
   charge-in-walks C Λ fm known = walked 𝓤 H A f.ended stayed (f.clauses 𝓤 H A mem run) (WpFn 𝓤 H C Λ code.function)
       (λ κs. ((λ d. P′.lowered d ∷ []), (uint-vals w64, (uint-vals w64, (uint-vals w64, (uint-vals w64, tt)))))) (λ κs. (P′.lowers .val-is, (uint-tells w64, (uint-tells w64, (uint-tells w64, (uint-tells w64, tt))))))
       (λ κs qs bounds a g are. needs 𝓤 (a .1 .0 < 256) _ (walk 𝓤 H A W mem run (a .0) (a .1 .0) (a .1 .1 .0) (a .1 .1 .1 .0) (a .1 .1 .1 .1 .0) (are .1 .1 .0 .1) (are .1 .1 .1 .0 .1) (are .1 .1 .1 .1 .0 .1) C Λ fm known (are .1 .0 .1) (are .0)))
@@ -249,7 +249,7 @@ module _ {M : Type 1} (𝓤 : URA M) (H : Heap 𝓤) (A : Atoms 𝓤) (W : Given
   goes = (goes-dropped 𝓤 H A W 0 (plain (λ _. P.the-row)) yes (λ κs x f. refl), (goes-dropped 𝓤 H A W 0 (plain (λ _. usize)) yes (λ κs x f. refl), (goes-dropped 𝓤 H A W 0 (plain (λ _. u64)) yes (λ κs x f. refl), (goes-dropped 𝓤 H A W 0 (plain (λ _. u64)) yes (λ κs x f. refl), (goes-dropped 𝓤 H A W 0 (plain (λ _. u64)) yes (λ κs x f. refl), tt)))))
 
 charge-in-meets : {M : Type 1} (𝓤 : URA M) (H : Heap 𝓤) (A : Atoms 𝓤) (W : Given 𝓤 H A) (mem : Memory → SProp 𝓤) (run : Routine → Fun 𝓤) (𝓣 : Tables 𝓤 H)
-    → Triple 𝓤 (𝓣 .C #policing·charge) (Charge 𝓤 H A mem run) → Meets 𝓤 H A f.signature (WpFn 𝓤 H (𝓣 .C) (𝓣 .Λ) code.function) (f.spec 𝓤 H A mem run)
+    → Triple 𝓤 (𝓣 .C #port-policing·charge) (Charge 𝓤 H A mem run) → Meets 𝓤 H A f.signature (WpFn 𝓤 H (𝓣 .C) (𝓣 .Λ) code.function) (f.spec 𝓤 H A mem run)
 charge-in-meets 𝓤 H A W mem run 𝓣 known = walk-meets 𝓤 H A f.ended stayed W (goes 𝓤 H A W mem run) (f.clauses 𝓤 H A mem run) (WpFn 𝓤 H (𝓣 .C) (𝓣 .Λ) code.function) (WpFn-mono 𝓤 H (W .laws) 𝓣 code.function)
     (charge-in-walks 𝓤 H A W mem run (𝓣 .C) (𝓣 .Λ) (fmOf 𝓤 H (W .laws) 𝓣) known)
 
@@ -259,4 +259,4 @@ charge-in-spec 𝓤 H 𝓜 𝓖 𝓡 =
     entered 𝓤 H (tripleOf 𝓤 H (𝓖 .A) f.signature (f.spec 𝓤 H (𝓖 .A) (𝓜 .mem) (𝓡 .run)))
     (tables 𝓤 H 𝓜 𝓡 code.env .C) (tables 𝓤 H 𝓜 𝓡 code.env .Λ) #port·charge-in code.function (code.unfolded 𝓤 H 𝓜 𝓡)
     (charge-in-meets 𝓤 H (𝓖 .A) (givenOf 𝓤 H 𝓜 𝓖) (𝓜 .mem) (𝓡 .run) (tablesOf 𝓤 H 𝓜 (tables 𝓤 H 𝓜 𝓡 code.env))
-    (cited 𝓤 H (Charge 𝓤 H (𝓖 .A) (𝓜 .mem) (𝓡 .run)) 𝓜 𝓡 code.env #policing·charge charge-def.routine code.calls-policing·charge (charge-thm.met 𝓤 H 𝓜 𝓖 𝓡)))
+    (cited 𝓤 H (Charge 𝓤 H (𝓖 .A) (𝓜 .mem) (𝓡 .run)) 𝓜 𝓡 code.env #port-policing·charge charge-def.routine code.calls-port-policing·charge (charge-thm.met 𝓤 H 𝓜 𝓖 𝓡)))

@@ -5,12 +5,12 @@ use lib.ListN.{length, getD}
 use Rattle.model.specs.Link.{VirtualLink}
 use Rattle.model.specs.Report.{frame}
 use Rattle.model.specs.Report.{admits as admitted}
-use Rattle.table.specs.View.{linkOf, blankFields}
-use Rattle.scheduler.specs.declared.Frame.{Frame}
+use Rattle.table.specs.View.{viewLink, blankFields}
+use Rattle.port_scheduler.specs.declared.Frame.{Frame}
 use Rattle.port.specs.declared.Port.{Port}
-use Rattle.port.specs.View.{reportOf}
+use Rattle.port.specs.View.{viewReport}
 use Rattle.port.specs.Charging.{chargeOf}
-use Rattle.lookup.proofs.Tables.{Passing}
+use Rattle.table_lookup.proofs.Tables.{Passing}
 use Rattle.port.proofs.Whole.{Whole, whole}
 use Rattle.port.proofs.Answers.{NotRefused, is-wait, is-frame, passed, ready, found-at, found-nowhere, line-in, length-most, priority-in, roomy, reached, waits, arrives-nowhere, is-filtered, is-policed, is-settled}
 use borrow.Author.Needs.{needs}
@@ -38,7 +38,7 @@ module _ (c : tie.After-known-told) where
   abbrev len : ℕ
   len = c .before .r .given .0 .1 .1 .1 .0
 
-  is-it : reportOf (start .args .r) ≡ frame time line number len
+  is-it : viewReport (start .args .r) ≡ frame time line number len
   is-it = is-frame (c .before .r .given .1) (c .before .before .before .before .before .before .before .before .before .before .before .before .tick-of .ensures)
 
   accepted : NotRefused (start .args .p) (frame time line number len) (length (start .args .list .now))
@@ -73,7 +73,7 @@ module _ (c : tie.After-admits) where
   found = c .before .before .before .before
 
   abbrev link : VirtualLink
-  link = linkOf (getD (start (framed found) .args .p .table .numbers) (place found) 0) (getD (start (framed found) .args .p .table .links) (place found) blankFields)
+  link = viewLink (getD (start (framed found) .args .p .table .numbers) (place found) 0) (getD (start (framed found) .args .p .table .links) (place found) blankFields)
 
   filter-says : admitted link (line (framed found)) (len (framed found)) ≡ c .admits .result
   filter-says = sym (c .admits .ensures (link .number) ∙ ap (λ (f : Frame). admitted link (line (framed found)) (f .length)) (c .before .arrived .ensures))
@@ -94,7 +94,7 @@ tick-of-requires c κs = search needs
 
 advance-requires : tie.Need-advance-requires
 advance-requires c κs =
-    ready (c .before .before .before .before .args .p) (entire (c .before .before .before .before)) (reportOf (c .before .before .before .before .args .r)) (length (c .before .before .before .before .args .list .now)) (c .before .before .before .before .pre) (c .before .before .tick-of .ensures)
+    ready (c .before .before .before .before .args .p) (entire (c .before .before .before .before)) (viewReport (c .before .before .before .before .args .r)) (length (c .before .before .before .before .args .list .now)) (c .before .before .before .before .pre) (c .before .before .tick-of .ensures)
 
 enum-known-r : tie.Need-enum-known-r
 enum-known-r c = search needs

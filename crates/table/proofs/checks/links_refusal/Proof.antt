@@ -8,14 +8,14 @@ use Rattle.model.specs.Basics.{firstMet}
 use Rattle.model.specs.Table.{linksChecks}
 use Rattle.model.proofs.TableFacts.{counts-fit}
 use Rattle.table.specs.Checks.{previousOf}
-use Rattle.table.specs.View.{linksOf}
+use Rattle.table.specs.View.{viewLinks}
 use Rattle.table.proofs.Refusals.{previous-none}
 use Rattle.table.proofs.Links.{links-stop, links-go-on, links-end}
 use Rattle.table.proofs.checks.links_refusal.Statement.{statement}
 use Rattle.table.proofs.checks.links_refusal.Tie as tie
 
 abbrev Inv-loop : tie.InvT-loop
-Inv-loop t n previous₀ i₀ previous i = (i ≤ n) × (n ≡ t .count) × (firstMet (linksChecks (t .lines) none (linksOf t)) ≡ firstMet (linksChecks (t .lines) (previousOf i previous) (drop i (linksOf t))))
+Inv-loop t n previous₀ i₀ previous i = (i ≤ n) × (n ≡ t .count) × (firstMet (linksChecks (t .lines) none (viewLinks t)) ≡ firstMet (linksChecks (t .lines) (previousOf i previous) (drop i (viewLinks t))))
 
 abbrev μ-loop : tie.MeasureT-loop
 μ-loop t n previous₀ i₀ previous i = n - i

@@ -48,12 +48,12 @@ use denote.Triple.Walked.{says, Stays, stay-dropped, walkOf, goes-dropped, Walks
 use denote.Exit.{yes}
 use denote.Triple.Clauses.{ensured, lasts}
 use Rattle.model.specs.TableFile.{readTable}
-use Rattle.record_reader.specs.Records.{said as saidOf, dueAt}
-use Rattle.table_file.specs.Answers.{readingOf}
-use Rattle.table_file.specs.Steps.{firstStep, stepOf, endedOf}
+use Rattle.table_record_reader.specs.Records.{said as saidOf, dueAt}
+use Rattle.table_file.specs.Answers.{recordReading}
+use Rattle.table_file.specs.Steps.{firstStep, stepAfter, endedAfter}
 use Rattle.table.specs.View.{blankFields}
 use Rattle.table.specs.declared.VirtualLink.{VirtualLink as LinkFields}
-use Rattle.record_reader.specs.declared.Record.{Record}
+use Rattle.table_record_reader.specs.declared.Record.{Record}
 use Rattle.table_file.specs.declared.Reading.{Reading}
 use Rattle.table_file.specs.declared.walk.Walk.{Walk}
 use Rattle.table_file.specs.declared.steps.Step.{Step}
@@ -63,8 +63,8 @@ use Rattle.table_file.proofs.walk.Walk as T
 use Rattle.table_file.proofs.walk.Walk.Laws as T′
 use Rattle.table_file.proofs.steps.Step as P
 use Rattle.table_file.proofs.steps.Step.Laws as P′
-use Rattle.record_reader.proofs.Record as S
-use Rattle.record_reader.proofs.Record.Laws as S′
+use Rattle.table_record_reader.proofs.Record as S
+use Rattle.table_record_reader.proofs.Record.Laws as S′
 use Rattle.table.proofs.VirtualLink as L
 use Rattle.table.proofs.VirtualLink.Laws as L′
 use Rattle.table_file.proofs.Reading as G
@@ -219,8 +219,8 @@ module _ {M : Type 1} (𝓤 : URA M) (H : Heap 𝓤) (A : Atoms 𝓤) (W : Given
       qed W (‵ (S.the-row .own t (u ∷ [])) ∷ []) ∵ nothing ! $ owned ! P.the-row (Is P.the-row) (LL.makes P.the-type P′.the-plain 𝓤 H A) p _ ok $ fjoin ! $
       owned ! usize (Is usize) (uint-makes 𝓤 H A W w64) k _ (refl, fits) $ fjoin ! $ move ! (1 ∷ 0 ∷ []) $ fjoin ! $ nothing ! $ join ! $ frame ! $ done !
 
-  taken-said : (t : Record) (k : ℕ) (p r : Step) → ent 𝓤 (ensured 𝓤 H A taken-in.ended (taken-in.clauses 𝓤 H A mem run) tt (t, (k, (p, tt))) tt r) (fact 𝓤 (r ≡ stepOf t k p))
-  taken-said t k p r = exE 𝓤 _ (λ ws. snd∗ 𝓤 (sem 𝓤 H A (lasts taken-in.ended tt (t, (k, (p, tt))) ws)) (fact 𝓤 (r ≡ stepOf t k p)))
+  taken-said : (t : Record) (k : ℕ) (p r : Step) → ent 𝓤 (ensured 𝓤 H A taken-in.ended (taken-in.clauses 𝓤 H A mem run) tt (t, (k, (p, tt))) tt r) (fact 𝓤 (r ≡ stepAfter t k p))
+  taken-said t k p r = exE 𝓤 _ (λ ws. snd∗ 𝓤 (sem 𝓤 H A (lasts taken-in.ended tt (t, (k, (p, tt))) ws)) (fact 𝓤 (r ≡ stepAfter t k p)))
 
   abbrev to-ended : Record → Val → Step → List ℕ → List LinkFields → Ended 𝓤 H A mem run .Ghost
   to-ended t u p ns ls = ((tt, tt, tt, (t, (p, (ns, (ls, tt)))), (u ∷ [], (P′.lowered p ∷ [], (num-vals ns, (link-vals ls, tt))))), tt)
@@ -231,8 +231,8 @@ module _ {M : Type 1} (𝓤 : URA M) (H : Heap 𝓤) (A : Atoms 𝓤) (W : Given
       qed W (‵ (Array u16 256 .own ns (num-vals ns)) ∷ ‵ (Array L.the-row 256 .own ls (link-vals ls)) ∷ []) ∵ nothing ! $ move ! (2 ∷ 0 ∷ []) $ fjoin ! $ move ! (1 ∷ 0 ∷ []) $ fjoin ! $
       owned ! P.the-row (Is P.the-row) (LL.makes P.the-type P′.the-plain 𝓤 H A) p _ ok $ fjoin ! $ owned ! S.the-row (Is S.the-row) (EL.makes S.the-type S′.the-plain 𝓤 H A) t _ is $ fjoin ! $ nothing ! $ join ! $ frame ! $ done !
 
-  ended-said : (t : Record) (p : Step) (ns : List ℕ) (ls : List LinkFields) (a : Reading) → ent 𝓤 (ensured 𝓤 H A ended.ended (ended.clauses 𝓤 H A mem run) tt (t, (p, (ns, (ls, tt)))) tt a) (fact 𝓤 (a ≡ endedOf t p ns ls))
-  ended-said t p ns ls a = exE 𝓤 _ (λ ws. snd∗ 𝓤 (sem 𝓤 H A (lasts ended.ended tt (t, (p, (ns, (ls, tt)))) ws)) (fact 𝓤 (a ≡ endedOf t p ns ls)))
+  ended-said : (t : Record) (p : Step) (ns : List ℕ) (ls : List LinkFields) (a : Reading) → ent 𝓤 (ensured 𝓤 H A ended.ended (ended.clauses 𝓤 H A mem run) tt (t, (p, (ns, (ls, tt)))) tt a) (fact 𝓤 (a ≡ endedAfter t p ns ls))
+  ended-said t p ns ls a = exE 𝓤 _ (λ ws. snd∗ 𝓤 (sem 𝓤 H A (lasts ended.ended tt (t, (p, (ns, (ls, tt)))) ws)) (fact 𝓤 (a ≡ endedAfter t p ns ls)))
 
   abbrev to-adv : Walk → Val → ℕ → Adv 𝓤 H A mem run .Ghost
   to-adv r u m = (((κ, tt), (q, tt), tt, (r, (m, tt)), (u ∷ [], (vint w64 m ∷ [], tt))), tt)
@@ -258,7 +258,7 @@ module _ {M : Type 1} (𝓤 : URA M) (H : Heap 𝓤) (A : Atoms 𝓤) (W : Given
   step-typed : (p : Step) (u : Val) → Is P.the-row p (u ∷ []) → Holds (hasTy P′.mir u) × WT u
   step-typed p u is = LL.lawful P.the-type P′.the-laws 𝓤 H A W .typed p _ is .0
 
-  exits : (a : Reading) (u : Val) → a ≡ readingOf (readTable (now s)) → ent 𝓤 (⋆ 𝓤 H A (‵ (G.the-row .own a (u ∷ [])) ∷ (‵ (flft κ q) ⊛ ‵ ftrue) ∷ [])) (Post u)
+  exits : (a : Reading) (u : Val) → a ≡ recordReading (readTable (now s)) → ent 𝓤 (⋆ 𝓤 H A (‵ (G.the-row .own a (u ∷ [])) ∷ (‵ (flft κ q) ⊛ ‵ ftrue) ∷ [])) (Post u)
   exits a u e =
       qed W (‵ (G.the-row .own a (u ∷ [])) ∷ (‵ (flft κ q) ⊛ ‵ ftrue) ∷ []) ∵
       suffices ! _ (ends-at 𝓤 H A f.ended stayed (f.clauses 𝓤 H A mem run) W (((κ, tt), (q, tt), tt, (s, tt), (v ∷ [], tt)), tt) u a (tt, tt) (tt, tt)) $ says ! e $
@@ -278,8 +278,8 @@ module _ {M : Type 1} (𝓤 : URA M) (H : Heap 𝓤) (A : Atoms 𝓤) (W : Given
     ok,
   )
 
-  module _ (n : ℕ) (r : Walk) (p : Step) (ns : List ℕ) (ls : List LinkFields) (fs : Facts n (r, (p, (ns, ls)))) (t : Record) (e₁ : Due r p t) (p′ : Step) (e₂ : p′ ≡ stepOf t (r .read) p) where
-    stop-facts : (a : Reading) → Holds (eqb (p′ .taken) 0) → a ≡ endedOf t p′ ns ls → a ≡ readingOf (readTable (now s))
+  module _ (n : ℕ) (r : Walk) (p : Step) (ns : List ℕ) (ls : List LinkFields) (fs : Facts n (r, (p, (ns, ls)))) (t : Record) (e₁ : Due r p t) (p′ : Step) (e₂ : p′ ≡ stepAfter t (r .read) p) where
+    stop-facts : (a : Reading) → Holds (eqb (p′ .taken) 0) → a ≡ endedAfter t p′ ns ls → a ≡ recordReading (readTable (now s))
     stop-facts a none e = stops n (now s) (now (r .rest)) (r .read) p ns ls (fs .0) t e₁ p′ e₂ a (none-taken (p′ .taken) none) e
 
     gone : Holds (not (eqb (p′ .taken) 0)) → Gone n (now s) (now (r .rest)) (r .read) p′ ns ls
@@ -352,7 +352,7 @@ module _ {M : Type 1} (𝓤 : URA M) (H : Heap 𝓤) (A : Atoms 𝓤) (W : Given
         use1 W (raw (Taken 𝓤 H A mem run .pre (to-taken t u₁ (x .0 .read) (x .1 .0)))) (goes-taken t u₁ (x .0 .read) (x .1 .0) (typed (x .0) _ is .1 .1 .0 .fits) (fs .1)) $
         calls-at ! fm (Taken 𝓤 H A mem run) k-taken (to-taken t u₁ (x .0 .read) (x .1 .0)) (and-then ! (load ! (from ! (stop !)) (look ! 29 refl)) (and-then ! (load ! (from ! (stop !)) (look ! 25 refl)) (and-then ! (load ! (from ! (stop !)) (look ! 3 refl)) (no-more !)))) (λ u₂.
         use1 W (later (some (λ (p′ : Step). (‵ ftrue ⊛ ‵ (P.the-row .own p′ (u₂ ∷ []))) ⊛ raw (ensured 𝓤 H A taken-in.ended (taken-in.clauses 𝓤 H A mem run) tt (t, (x .0 .read, (x .1 .0, tt))) tt p′)))) (id⊢ 𝓤 _) $ await ! tt $ pick ! (λ p′.
-        split ! $ move ! (1 ∷ []) $ use1 W (raw (fact 𝓤 (p′ ≡ stepOf t (x .0 .read) (x .1 .0)))) (taken-said t (x .0 .read) (x .1 .0) p′) $ heard ! (p′ ≡ stepOf t (x .0 .read) (x .1 .0)) (λ e₂. split ! $ drop ! $
+        split ! $ move ! (1 ∷ []) $ use1 W (raw (fact 𝓤 (p′ ≡ stepAfter t (x .0 .read) (x .1 .0)))) (taken-said t (x .0 .read) (x .1 .0) p′) $ heard ! (p′ ≡ stepAfter t (x .0 .read) (x .1 .0)) (λ e₂. split ! $ drop ! $
         peeks ! P.the-row (Is P.the-row) (shows 𝓤 H A P.the-row) p′ (u₂ ∷ []) (λ is₂. land ! (from ! (stop !)) (store ! 3 refl (step-typed p′ u₂ is₂)) $
         rewrite ! 3 (λ (z : Val). ‵ (fat fullShare P′.mir l₂ 0 z)) (ap only (P′.lowers .val-is p′ (u₂ ∷ []) is₂)) refl $ drop ! $
         assigns ! (bin ! (load ! (from ! (fld ! refl (stop !))) (look-in ! 2 (sub ! 1 refl (whole !)))) (lit ! tt) tt) (from ! (stop !)) (init ! 22 refl (tt, tt)) $
@@ -368,7 +368,7 @@ module _ {M : Type 1} (𝓤 : URA M) (H : Heap 𝓤) (A : Atoms 𝓤) (W : Given
         move ! (3 ∷ 1 ∷ []) $ use2 W (raw (Ended 𝓤 H A mem run .pre (to-ended t u₁ p′ (x .1 .1 .0) (x .1 .1 .1)))) (goes-ended t u₁ p′ (x .1 .1 .0) (x .1 .1 .1) is₁ (fit p′ u₂ is₂)) $
         calls-at ! fm (Ended 𝓤 H A mem run) k-ended (to-ended t u₁ p′ (x .1 .1 .0) (x .1 .1 .1)) (and-then ! (load ! (from ! (stop !)) (look ! 29 refl)) (and-then ! (load ! (from ! (stop !)) (look ! 5 refl)) (and-then ! (load ! (from ! (stop !)) (look ! 21 refl)) (and-then ! (load ! (from ! (stop !)) (look ! 19 refl)) (no-more !))))) (λ u₃.
         use1 W (later (some (λ (a : Reading). (‵ ftrue ⊛ ‵ (G.the-row .own a (u₃ ∷ []))) ⊛ raw (ensured 𝓤 H A ended.ended (ended.clauses 𝓤 H A mem run) tt (t, (p′, (x .1 .1 .0, (x .1 .1 .1, tt)))) tt a)))) (id⊢ 𝓤 _) $ await ! tt $ pick ! (λ a.
-        split ! $ move ! (1 ∷ []) $ use1 W (raw (fact 𝓤 (a ≡ endedOf t p′ (x .1 .1 .0) (x .1 .1 .1)))) (ended-said t p′ (x .1 .1 .0) (x .1 .1 .1) a) $ heard ! (a ≡ endedOf t p′ (x .1 .1 .0) (x .1 .1 .1)) (λ e₃. split ! $ drop ! $
+        split ! $ move ! (1 ∷ []) $ use1 W (raw (fact 𝓤 (a ≡ endedAfter t p′ (x .1 .1 .0) (x .1 .1 .1)))) (ended-said t p′ (x .1 .1 .0) (x .1 .1 .1) a) $ heard ! (a ≡ endedAfter t p′ (x .1 .1 .0) (x .1 .1 .1)) (λ e₃. split ! $ drop ! $
         -- [owna; _4; _3; tok; ownw; _2; _5; _17; _16; _15; _14; _13; _12; _11; _10; _9; _8; _7; _6; _1; _0]
         peeks ! G.the-row (Is G.the-row) (shows 𝓤 H A G.the-row) a (u₃ ∷ []) (λ is₃. land ! (from ! (stop !)) (init ! 37 refl (LL.lawful G.the-type G′.the-laws 𝓤 H A W .typed a _ is₃ .0)) $
         returns-within ! Post refl (look ! 37 refl) $ forget ! 1 refl $ forget ! 2 refl $ forget ! 5 refl $ forget ! 6 refl $ forget ! 19 refl $ forget ! 21 refl $ forget ! 23 refl $ forget ! 25 refl $ forget ! 27 refl $ forget ! 29 refl $ forget ! 35 refl $ forget ! 37 refl $

@@ -1,0 +1,56 @@
+-- The accounts at rest: blanks, and one account more.
+use mathlib.Core.Path.{_≡_, sym, ap, _∙_}
+use mathlib.Core.List.{List, [], _∷_, _++_, map, map-append}
+use Prim.Native.Nat.{ℕ, zero, suc, _+_, _≤_, _<_}
+use native.Mathlib.Numerals.{add-one}
+use native.Mathlib.Omega.{arith}
+use lib.ListN.{length, getD, set, take, replicate, length-map}
+use lib.Seq.{take-suc, take-all, length-take-le}
+use Rattle.model.specs.Basics.{entries}
+use Rattle.model.specs.Link.{VirtualLink, blankLink, bagOf, linkAt}
+use Rattle.model.specs.Report.{blankAccount, fullAccount}
+use Rattle.model.proofs.Entries.{entries-blank, entries-next}
+use Rattle.table.specs.declared.Table.{Table as TableRecord}
+use Rattle.table.specs.View.{blankFields, viewLinks}
+use Rattle.table.proofs.Shape.{Sized, link-shown, count-shown}
+use Rattle.port_policing.specs.declared.Account.{Account as AccountRecord}
+use Rattle.port_policing.specs.Check.{recordAccount}
+use Rattle.port_policing.specs.Full.{fullAccounts}
+
+-- a BAG has 21 bits
+pub bag-most : (code : ℕ) → bagOf code ≤ 1_600_000
+unfolding bagOf
+bag-most zero = omega arith
+bag-most (suc zero) = omega arith
+bag-most (suc (suc zero)) = omega arith
+bag-most (suc (suc (suc zero))) = omega arith
+bag-most (suc (suc (suc (suc zero)))) = omega arith
+bag-most (suc (suc (suc (suc (suc zero))))) = omega arith
+bag-most (suc (suc (suc (suc (suc (suc zero)))))) = omega arith
+bag-most (suc (suc (suc (suc (suc (suc (suc zero))))))) = omega arith
+bag-most (suc (suc (suc (suc (suc (suc (suc (suc n)))))))) = omega arith
+
+-- ---- the accounts, one more
+abbrev pub accountsOf : List VirtualLink → List AccountRecord
+accountsOf links = entries (recordAccount blankAccount) 256 (map recordAccount (map fullAccount links))
+
+pub none-yet : replicate 256 (recordAccount blankAccount) ≡ accountsOf []
+none-yet = sym (entries-blank (recordAccount blankAccount) 256)
+
+pub one-more : (links : List VirtualLink) (i : ℕ) → i < length links → i < 256 → set (accountsOf (take i links)) i (recordAccount (fullAccount (linkAt links i))) ≡ accountsOf (take (i + 1) links)
+one-more links i h k =
+    let front = map recordAccount (map fullAccount (take i links)) in
+    let n : length front ≡ i = length-map (map fullAccount (take i links)) recordAccount ∙ length-map (take i links) fullAccount ∙ length-take-le i links (omega arith) in
+    let same : set (accountsOf (take i links)) (length front) (recordAccount (fullAccount (linkAt links i))) ≡ entries (recordAccount blankAccount) 256 (front ++ (recordAccount (fullAccount (linkAt links i)) ∷ [])) =
+    entries-next (recordAccount blankAccount) 256 front (recordAccount (fullAccount (linkAt links i))) (omega arith) in
+    (rw n at same) ∙ rw (add-one, take-suc links i blankLink h, map-append fullAccount (take i links) (linkAt links i ∷ []), map-append recordAccount (map fullAccount (take i links)) (fullAccount (linkAt links i) ∷ []))
+
+module _ (t : TableRecord) (s : Sized t) (few : t .count ≤ 256) (i : ℕ) (below : i < t .count) where
+  pub next-account : {b j : ℕ} → b ≡ bagOf (getD (t .links) i blankFields .code) → j ≡ getD (t .links) i blankFields .jitter →
+      set (accountsOf (take i (viewLinks t))) i (record { credit = b + j; tick = 0 }) ≡ accountsOf (take (i + 1) (viewLinks t))
+  next-account {b} {j} e q =
+      let full : _≡_ {A = AccountRecord} (record { credit = b + j; tick = 0 }) (recordAccount (fullAccount (linkAt (viewLinks t) i))) = rw (link-shown t i s below few, e, q) in
+      rw full (one-more (viewLinks t) i (omega (arith, count-shown t)) (omega arith))
+
+pub all-accounts : (t : TableRecord) (i : ℕ) → t .count ≤ i → accountsOf (take i (viewLinks t)) ≡ fullAccounts t
+all-accounts t i h = rw (take-all i (viewLinks t) (omega (arith, count-shown t)))

@@ -1,0 +1,40 @@
+-- The conditions of fitness on queues and sender, over the records of the code.
+use mathlib.Core.Path.{_≡_}
+use mathlib.Core.Bool.{Bool, true}
+use mathlib.Core.List.{List, [], _∷_}
+use Prim.Native.Nat.{ℕ}
+use lib.Dec.{leb}
+use lib.ListN.{length, getD}
+use Rattle.model.specs.Basics.{allTo, allHold}
+use Rattle.model.specs.Units.{mostFrames}
+use Rattle.model.specs.Machine.{queueOf, held, framesHeld}
+use Rattle.model.specs.Report.{framesFit, senderFit}
+use Rattle.table.specs.declared.Table.{Table as TableRecord}
+use Rattle.table.specs.View.{viewTable}
+use Rattle.port_scheduler.specs.declared.Queue.{Queue}
+use Rattle.port_scheduler.specs.declared.Sender.{Sender as SenderRecord}
+use Rattle.port_scheduler.specs.View.{viewQueue, viewQueues, viewMarks, viewSender}
+use Rattle.port_queue_fitness.specs.declared.Fitness.{Fitness}
+
+-- of one queue, of priority p: its frames and its held sum
+abbrev pub loadFits : TableRecord → ℕ → ℕ → Queue → Bool
+loadFits t clock p q = allHold (framesFit (viewTable t) p clock 0 (viewQueue q) ∷ leb (held (viewQueue q)) (q .mark) ∷ [])
+
+-- of the queue of priority p: its count, its frames, its held sum, its mark
+abbrev pub queueFits : TableRecord → ℕ → List Queue → ℕ → Bool
+queueFits t clock queues p =
+    allHold (
+    leb (length (queueOf (viewQueues queues) p)) mostFrames
+    ∷ framesFit (viewTable t) p clock 0 (queueOf (viewQueues queues) p)
+    ∷ leb (held (queueOf (viewQueues queues) p)) (getD (viewMarks queues) p 0)
+    ∷ leb (getD (viewMarks queues) p 0) (getD (t .sizes) p 0)
+    ∷ []
+    )
+
+abbrev pub queuesFit : TableRecord → ℕ → List Queue → Bool
+queuesFit t clock queues = allTo (queueFits t clock queues) 8
+
+-- what is told of the queues and the sender: whether all of it fits, and, if so, how many frames are held
+pub record Told (t : TableRecord) (clock : ℕ) (queues : List Queue) (sender : SenderRecord) (r : Fitness) : Type 0 where
+  pub fits-is : r .fits ≡ allHold (queuesFit t clock queues ∷ senderFit clock (viewQueues queues) (viewSender sender) ∷ [])
+  pub counted : r .fits ≡ true → r .frames ≡ framesHeld (viewQueues queues)

@@ -1,0 +1,34 @@
+-- For callers: what fitness tells of what an advance asks, and a frame queued among the eight.
+use mathlib.Core.Path.{_≡_}
+use mathlib.Core.List.{List}
+use Prim.Native.Nat.{ℕ, _*_, _≤_}
+use lib.ListN.{getD, set}
+use Rattle.model.specs.Units.{lastTick}
+use Rattle.model.specs.Table.{Table}
+use Rattle.model.specs.Machine.{Frame, at, queueOf, queuedLast, framesHeld}
+use Rattle.model.specs.Report.{Port}
+use Rattle.model.proofs.Queues.{each-map}
+use Rattle.model.proofs.Lined.{lined-meets}
+use Rattle.model.proofs.Fitness.{Fit}
+use Rattle.port_scheduler.specs.declared.Frame.{Frame as FrameRecord}
+use Rattle.port_scheduler.specs.declared.Queue.{Queue}
+use Rattle.port_scheduler.specs.declared.Sender.{Sender as SenderRecord}
+use Rattle.port_scheduler.specs.View.{viewFrame, blankQueue, viewQueues, viewSender}
+use Rattle.port_scheduler.specs.Contracts.{Pushed, Ready}
+use Rattle.port_scheduler.proofs.Shown.{queue-shown, queues-set}
+
+-- the port's fitness, its tick tests and refusal 16 are what an advance asks
+pub fit-ready : (t : Table) (port : Port) {qs : List Queue} {s : SenderRecord} {clock time len : ℕ} → Fit t port → port .scheduler ≡ at clock (viewQueues qs) (viewSender s) →
+    clock ≤ time → time ≤ lastTick → 3 * framesHeld (viewQueues qs) ≤ len → Ready qs s clock time len
+fit-ready t port {qs} {s} {clock} {time} {len} k e later early room =
+    record {
+      few = λ p h. rw e at (k .few p h);
+      positive = λ p h. rw e at (each-map (λ (f : Frame) m. m .positive) (lined-meets t p (port .scheduler .clock) 0 (queueOf (port .scheduler .queues) p) (k .table) (k .lined p h)));
+      sender = rw e at (k .sender);
+      later = later;
+      early = early;
+      room = room;
+    }
+
+pub queued-last : (qs : List Queue) (p : ℕ) {f : FrameRecord} {r : Queue} → Pushed (getD qs p blankQueue) f r → viewQueues (set qs p r) ≡ queuedLast (viewQueues qs) p (viewFrame f)
+queued-last qs p k = rw (queues-set, k .frames, queue-shown)

@@ -1,0 +1,22 @@
+use mathlib.Core.Path.{_∙_}
+use native.Mathlib.Omega.{arith}
+use Rattle.table.specs.View.{viewLink}
+use Rattle.port_storing.proofs.Judging.{other-line, too-short, not-too-long}
+use borrow.Author.Needs.{needs}
+use Rattle.port_storing.proofs.admits.Statement.{statement}
+use Rattle.port_storing.proofs.admits.Tie as tie
+
+u8-as-u64-requires : tie.Need-u8-as-u64-requires
+u8-as-u64-requires c κs = search needs
+
+returns : tie.Need-returns
+returns c = let s = c .before .before in λ n. other-line (viewLink n (s .args .link)) (s .args .line) (s .args .«length») (λ e. c .if1 .taken (c .before .u8-as-u64 .ensures .0 ∙ e))
+
+returns-2 : tie.Need-returns-2
+returns-2 c = let s = c .before .before .before .before in λ n. too-short (viewLink n (s .args .link)) (s .args .line) (s .args .«length») (omega arith) (c .if2 .taken)
+
+returns-3 : tie.Need-returns-3
+returns-3 c = let s = c .before .before .before .before .before in λ n. not-too-long (viewLink n (s .args .link)) (s .args .line) (s .args .«length») (omega arith) (c .before .if2 .left)
+
+pub admits-spec : {M : Type 1} → statement M
+admits-spec = tie.close (tie.spec u8-as-u64-requires returns returns-2 returns-3)

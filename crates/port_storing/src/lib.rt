@@ -1,0 +1,90 @@
+// Internal to the product: the filter, and a frame that passed the police check, stored or dropped.
+use numbers::u8_as_u64;
+use numbers::u32_as_u64;
+use port_scheduler::Frame;
+use port_scheduler::Queue;
+use table::VirtualLink;
+ghost use mathlib.Core.Path.{_≡_};
+ghost use Prim.Native.Nat.{ℕ, _+_, _≤_, _<_, _^_, max};
+ghost use lib.Dec.{leb};
+ghost use Rattle.model.specs.Units.{mostFrames};
+ghost use Rattle.model.specs.Report.{admits as admitsFrame};
+ghost use Rattle.table.specs.View.{viewLink};
+ghost use Rattle.port_storing.specs.Storing.{Stored, Roomy, Settles};
+
+// The verdict of a frame that passed the police check, and the queue of its link's priority after it.
+pub struct Settled {
+    pub verdict: u32,
+    pub queue: Queue,
+}
+
+fn larger(x: u32, y: u32) -> u32
+    ensures { λ r. ⌜ r ≡ max x y ⌝ }
+{
+    if x < y {
+        return y;
+    }
+    x
+}
+
+// The filter, where a link has the frame's number.
+pub fn admits(link: VirtualLink, line: u64, length: u16) -> bool
+    ensures { λ r. ⌜ ((n : ℕ) → r ≡ admitsFrame (viewLink n link) line length) ⌝ }
+{
+    if u8_as_u64(link.line) != line {
+        return false;
+    }
+    if length < link.least {
+        return false;
+    }
+    length <= link.greatest
+}
+
+// Whether so many bytes more are within the size; no sum wraps.
+fn has_room(held: u64, more: u64, size: u64) -> bool
+    ensures { λ r. ⌜ r ≡ leb (held + more) size ⌝ }
+{
+    if size < more {
+        return false;
+    }
+    held <= size - more
+}
+
+// The queue with the frame last; the mark rises to the bytes that it then holds if they are more.
+fn stored(q: Queue, f: Frame, bytes: u64) -> Queue
+    requires { ⌜ (q .count < mostFrames) × (bytes < 2 ^ 32) ⌝ }
+    ensures { λ r. ⌜ Stored q f bytes r ⌝ }
+{
+    let mut r = port_scheduler::pushed(q, f);
+    let high = bytes as u32;
+    r.mark = larger(r.mark, high);
+    r
+}
+
+// Dropped (3), or stored (0).
+pub fn settle(queue: Queue, size: u32, f: Frame) -> Settled
+    requires { ⌜ Roomy queue size f ⌝ }
+    ensures { λ r. ⌜ Settles queue size f r ⌝ }
+{
+    let held = port_scheduler::held(queue);
+    let more = port_scheduler::occupancy(f.length);
+    if !has_room(held, more, u32_as_u64(size)) {
+        return Settled { verdict: 3, queue };
+    }
+    let longer = stored(queue, f, held + more);
+    Settled {
+        verdict: 0,
+        queue: longer,
+    }
+}
+
+pub fn arrived(number: u16, length: u64, time: u64) -> Frame
+    requires { ⌜ length ≤ 65535 ⌝ }
+    ensures { λ r. ⌜ r ≡ record { number = number; length = «length»; arrival = time } ⌝ }
+{
+    Frame {
+        number,
+        length: length as u16,
+        arrival: time,
+    }
+}
