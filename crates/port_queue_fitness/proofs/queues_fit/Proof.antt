@@ -44,6 +44,9 @@ mul-q c = omega arith
 array-copy-out-q : tie.Need-array-copy-out-q Inv-loop μ-loop
 array-copy-out-q c = omega arith
 
+cast-if3 : tie.Need-cast-if3 Inv-loop μ-loop
+cast-if3 c = omega arith
+
 unfit-requires : tie.Need-unfit-requires Inv-loop μ-loop
 unfit-requires c κs = search needs
 
@@ -180,6 +183,7 @@ queues-fit-spec =
     guesses-of-requires
     mul-q
     array-copy-out-q
+    cast-if3
     unfit-requires
     returns
     cast-load-fits
