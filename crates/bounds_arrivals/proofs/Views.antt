@@ -6,7 +6,7 @@ use native.Mathlib.Decide.{decLe, ℕ-discrete}
 use native.Mathlib.Omega.{arith}
 use lib.Dec.{eqb, leb, ltb}
 use borrow.Author.Tests.{le-leb, lt-leb, lt-ltb, le-ltb, eq-eqb, ne-eqb}
-use Rattle.model.specs.Units.{occupied}
+use Rattle.model.specs.Units.{unkept, occupied}
 use Rattle.model.specs.Link.{VirtualLink, linkAt, greatestOver}
 use Rattle.model.specs.Arrival.{arrivalCurve}
 use Rattle.model.specs.Bounds.{ofPriority, upTo, beyond, ownArrivals, upArrivals, longest, blocking}
@@ -14,7 +14,7 @@ use Rattle.table.specs.declared.Table.{Table as TableRecord}
 use Rattle.table.specs.View.{viewLinks, viewTable}
 use Rattle.table.proofs.Shape.{count-shown}
 use Rattle.bounds_arrivals.specs.Fit.{Fit}
-use Rattle.bounds_arrivals.specs.Loads.{within, between, less, unkept}
+use Rattle.bounds_arrivals.specs.Loads.{within, between, less}
 use Rattle.bounds_arrivals.proofs.Sums.{greatest-same}
 use Rattle.bounds_arrivals.proofs.Fitting.{view-link}
 

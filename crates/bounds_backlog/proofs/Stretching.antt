@@ -4,6 +4,7 @@ use Prim.Native.Nat.{ℕ, _-_, _≤_, min}
 use native.Mathlib.Decide.{decLe}
 use native.Mathlib.Omega.{arith}
 use lib.ListN.{length}
+use Rattle.model.specs.Units.{unkept}
 use Rattle.model.specs.Bounds.{ownArrivals, upArrivals, blocking, longest, backlog}
 use Rattle.model.proofs.Holds.{up-grows}
 use Rattle.table.specs.declared.Table.{Table as TableRecord}
@@ -11,7 +12,7 @@ use Rattle.table.specs.View.{viewLinks, viewTable}
 use Rattle.table.proofs.Shape.{count-shown}
 use Rattle.bounds_arrivals.specs.declared.Loads.{Loads}
 use Rattle.bounds_arrivals.specs.Fit.{Fit}
-use Rattle.bounds_arrivals.specs.Loads.{between, less, unkept, Loaded, flow}
+use Rattle.bounds_arrivals.specs.Loads.{between, less, Loaded, flow}
 use Rattle.bounds_arrivals.proofs.Loading.{flow-is, tops-few}
 use Rattle.bounds_arrivals.proofs.Views.{own-within-up, own-arrivals, up-arrivals}
 use Rattle.bounds_backlog.specs.declared.Stretch.{Stretch}

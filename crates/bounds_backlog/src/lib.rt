@@ -3,6 +3,7 @@
 use bounds_arrivals::Loads;
 use table::Table;
 use table::VirtualLink;
+use units::UNKEPT;
 ghost use mathlib.Core.Path.{_≡_};
 ghost use Prim.Native.Nat.{_+_, _≤_, _<_};
 ghost use Rattle.model.specs.Bounds.{backlog};
@@ -62,7 +63,7 @@ fn stretch_at(t: Table, p: u8, blocking: u64, longest: u64, w: u64, last: u64) -
     requires { ⌜ Given (viewTable t) p blocking longest last × Fit t × (w ≤ last) ⌝ }
     ensures { λ r. ⌜ Stretched (backlog (viewTable t) p) w last r ⌝ }
 {
-    let own = bounds_arrivals::loads_of(t, w, p, p, 0);
+    let own = bounds_arrivals::loads_of(t, w, p, p, UNKEPT);
     let up = bounds_arrivals::loads_of(t, w, 0, p, 0);
     let until = numbers::smaller(steady(t, w, p), last);
     let lines = numbers::u16_as_usize(t.lines);
