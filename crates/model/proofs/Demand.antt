@@ -18,7 +18,8 @@ use Rattle.model.specs.Link.{VirtualLink, bag, linkAt}
 use Rattle.model.specs.Table.{Table, sizeOf}
 use Rattle.model.specs.Bounds.{longest, blocking, orZero, hold, bound}
 use Rattle.model.specs.Machine.{Frame, idle, Scheduler, Departure, queueOf, queuedLast, advance, stored, bytes, held}
-use Rattle.model.specs.Report.{Account, Port, accountAt, markOf, fresh, Report, wait, frame, tickOf, Judged, charged, withAccount, storedIf, withLineTick, arrived, Call, Stepped}
+use Rattle.model.specs.Port.{Account, Port, accountAt, markOf, fresh, withAccount, withLineTick}
+use Rattle.model.specs.Report.{Report, wait, frame, tickOf, Judged, charged, storedIf, arrived, Call, Stepped}
 use Rattle.model.specs.Run.{Entry, run, accepted, frameIf, storedBy, policedBy, droppedBy, passedBy, throughBy, without, withoutAll, andLast, heldFrames, isPriority, hasPriority, only, heldOf, mostHeld, andTick, ticksOf, KeepBagAndJitter, LinkKeeps, Always, start, then}
 use Rattle.model.specs.Promises.{DemandThree}
 use Rattle.model.proofs.Holds.{hold-is, HasBounds, has-bounds}

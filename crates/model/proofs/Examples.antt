@@ -16,7 +16,9 @@ use Rattle.model.specs.Bounds.{ofPriority, upTo, beyond, ownArrivals, up
 use Rattle.model.specs.TableFile.{tableBytes}
 use Rattle.model.specs.Sheet.{text, sheet}
 use Rattle.model.specs.Machine.{highestWaiting, startIfAny, started, freedIf, byteLeaves, tick, ticks, advance, bytes, framesHeld}
-use Rattle.model.specs.Report.{fresh, namesLink, framesFit, senderFit, fit, tickOf, frameChecks, reportChecks, reportRefusal, admits, admitted, replenished, charged, hasRoom, storedIf, passedIf, judge, judgeReport, bytesFreed, acceptedOr, step}
+use Rattle.model.specs.Port.{fresh}
+use Rattle.model.specs.Fitness.{namesLink, framesFit, senderFit, fit}
+use Rattle.model.specs.Report.{tickOf, frameChecks, reportChecks, reportRefusal, admits, admitted, replenished, charged, hasRoom, storedIf, passedIf, judge, judgeReport, bytesFreed, acceptedOr, step}
 use Rattle.model.specs.Run.{run}
 use Rattle.model.specs.Examples.{Outcome, Example, gives-bound, gives-hold, lacks-bounds, gives-answers, gives-bags, gives-sheet, outcomes, Correct}
 use Rattle.model.specs.Examples as example

@@ -14,7 +14,9 @@ use Rattle.model.specs.Link.{bag, linkAt}
 use Rattle.model.specs.Table.{Table, sizeOf, tableRefusal}
 use Rattle.model.specs.Bounds.{upTo, longest}
 use Rattle.model.specs.Machine.{Frame, Sender, idle, sending, queueOf, headOf, advance, ticks, held}
-use Rattle.model.specs.Report.{Port, accountAt, markOf, lineTick, framesFit, senderFit, fit, Report, wait, frame, tickOf, reportChecks, frameChecks, roomCheck, reportRefusal, Call, acceptedOr, step}
+use Rattle.model.specs.Port.{Port, accountAt, markOf, lineTick}
+use Rattle.model.specs.Fitness.{framesFit, senderFit, fit}
+use Rattle.model.specs.Report.{Report, wait, frame, tickOf, reportChecks, frameChecks, roomCheck, reportRefusal, Call, acceptedOr, step}
 use Rattle.model.specs.Run.{Entry, run, Always, start, then}
 use Rattle.model.specs.Promises.{NeverUnfit, NoneAppears}
 use Rattle.model.proofs.Checks.{all-true, true-all, all-to, to-all, first-later, Apart, first-apart}

@@ -14,7 +14,8 @@ use Rattle.model.specs.Basics.{provided, Each, done, also}
 use Rattle.model.specs.Link.{VirtualLink, bag, linkAt}
 use Rattle.model.specs.Table.{Table}
 use Rattle.model.specs.Arrival.{frameCurve, onLine, arrivalCurve}
-use Rattle.model.specs.Report.{Account, Port, blankAccount, accountAt, fullAccount, fresh, replenished, charged}
+use Rattle.model.specs.Port.{Account, Port, blankAccount, accountAt, fullAccount, fresh}
+use Rattle.model.specs.Report.{replenished, charged}
 use Rattle.model.specs.Promises.{Weight}
 use Rattle.model.proofs.Passed.{Passed, passedFrame, Proper, total, cnt, setLength, lineLength}
 use Rattle.model.proofs.TokenBucket.{Credited, credited-start, policed-keeps, charged-keeps, other-keeps, cnt-frames}

@@ -18,7 +18,9 @@ use Rattle.model.specs.Link.{VirtualLink, bag, linkAt, placeOf}
 use Rattle.model.specs.Table.{Table, sizeOf}
 use Rattle.model.specs.Bounds.{ofPriority, longest, orZero}
 use Rattle.model.specs.Machine.{Frame, queueOf, queuedLast, advance, stored, bytes, held}
-use Rattle.model.specs.Report.{Account, Port, markOf, fresh, namesLink, Report, wait, frame, Judged, judged, charged, storedIf, withLineTick, arrived, Stepped, step, Call}
+use Rattle.model.specs.Port.{Account, Port, markOf, fresh, withLineTick}
+use Rattle.model.specs.Fitness.{namesLink}
+use Rattle.model.specs.Report.{Report, wait, frame, Judged, judged, charged, storedIf, arrived, Stepped, step, Call}
 use Rattle.model.specs.Run.{Entry, accepted, frameIf, passedBy, run}
 use Rattle.model.specs.Promises.{Weight}
 use Rattle.model.proofs.Checks.{true-all}

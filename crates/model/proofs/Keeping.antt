@@ -8,7 +8,8 @@ use native.Mathlib.Omega.{arith}
 use lib.ListN.{length, getD, length-append, List·getD-append}
 use lib.Seq.{getD-append-seam}
 use Rattle.model.specs.Link.{VirtualLink, bag}
-use Rattle.model.specs.Report.{Account, fullAccount, replenished, charged}
+use Rattle.model.specs.Port.{Account, fullAccount}
+use Rattle.model.specs.Report.{replenished, charged}
 use Rattle.model.specs.Run.{KeepBagAndJitter}
 
 one-more : (ticks : List ℕ) (t : ℕ) → length (ticks ++ (t ∷ [])) ≡ suc (length ticks)

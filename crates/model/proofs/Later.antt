@@ -13,7 +13,8 @@ use Rattle.model.specs.Link.{VirtualLink, bag, linkAt}
 use Rattle.model.specs.Table.{Table}
 use Rattle.model.specs.Bounds.{longest, blocking, hold}
 use Rattle.model.specs.Machine.{Frame, Scheduler, Departure, advance, stored}
-use Rattle.model.specs.Report.{Account, Port, accountAt, fresh, Report, wait, frame, Judged, charged, storedIf, withLineTick, arrived, Call, Stepped}
+use Rattle.model.specs.Port.{Account, Port, accountAt, fresh, withLineTick}
+use Rattle.model.specs.Report.{Report, wait, frame, Judged, charged, storedIf, arrived, Call, Stepped}
 use Rattle.model.specs.Run.{Entry, run, accepted, frameIf, passedBy, departuresBy, heldFrames, ticksOf, Always, start, then}
 use Rattle.model.specs.Promises.{Leaving, Spaced, over, next, allDepartures, DeparturesInTime, DeparturesSpaced, PassedKeep}
 use Rattle.model.proofs.Holds.{HasBounds, has-bounds}

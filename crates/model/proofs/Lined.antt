@@ -14,7 +14,7 @@ use Rattle.model.specs.Link.{linkAt, placeOf}
 use Rattle.model.specs.Table.{Table}
 use Rattle.model.specs.Bounds.{ofPriority, longest}
 use Rattle.model.specs.Machine.{Frame, bytes, held}
-use Rattle.model.specs.Report.{namesLink, framesFit}
+use Rattle.model.specs.Fitness.{namesLink, framesFit}
 use Rattle.model.proofs.Checks.{all-true, true-all}
 use Rattle.model.proofs.Curves.{occupied-weight, greatest-ge}
 use Rattle.model.proofs.Gate.{mem-at}

@@ -13,7 +13,8 @@ use Rattle.model.specs.Units.{lastTick, leastLength, greatestLength, occ
 use Rattle.model.specs.Link.{VirtualLink, bag, linkAt, placeOf}
 use Rattle.model.specs.Table.{Table, sizeOf}
 use Rattle.model.specs.Machine.{Frame, Departure, queueOf, advance, held}
-use Rattle.model.specs.Report.{Account, Port, accountAt, lineTick, Report, wait, frame, tickOf, frameChecks, reportChecks, roomCheck, reportRefusal, Judged, judged, admits, admitted, replenished, charged, withAccount, hasRoom, storedIf, passedIf, judge, Stepped, withScheduler, withLineTick, arrived, judgeReport, listed, answered, refusal, acceptedOr, step}
+use Rattle.model.specs.Port.{Account, Port, accountAt, lineTick, withAccount, withScheduler, withLineTick}
+use Rattle.model.specs.Report.{Report, wait, frame, tickOf, frameChecks, reportChecks, roomCheck, reportRefusal, Judged, judged, admits, admitted, replenished, charged, hasRoom, storedIf, passedIf, judge, Stepped, arrived, judgeReport, listed, answered, refusal, acceptedOr, step}
 use Rattle.model.proofs.Checks.{all-true, Numbered, NoneMet, none-met}
 
 -- ---- the place of a number

@@ -9,7 +9,8 @@ use borrow.Author.Tests.{le-leb, lt-leb, eq-eqb, ne-eqb}
 use Rattle.model.specs.Basics.{provided}
 use Rattle.model.specs.Link.{VirtualLink, bag}
 use Rattle.model.specs.Arrival.{frameCurve}
-use Rattle.model.specs.Report.{Account, fullAccount, replenished, charged}
+use Rattle.model.specs.Port.{Account, fullAccount}
+use Rattle.model.specs.Report.{replenished, charged}
 use Rattle.model.proofs.Curves.{bag-positive, provided-zero}
 use Rattle.model.proofs.Passed.{Passed, total, counts, cnt}
 

@@ -12,7 +12,9 @@ use Rattle.model.specs.TableFile.{tableBytes, readTable, fileLength}
 use Rattle.model.specs.Arrival.{arrivalCurve}
 use Rattle.model.specs.Bounds.{ofPriority, upArrivals, blocking, holdOf, backlog, boundsRefusal, hold, bound}
 use Rattle.model.specs.Machine.{Frame, Departure, advance, framesHeld}
-use Rattle.model.specs.Report.{Port, fit, Call}
+use Rattle.model.specs.Port.{Port}
+use Rattle.model.specs.Fitness.{fit}
+use Rattle.model.specs.Report.{Call}
 use Rattle.model.specs.Run.{Entry, run, passedBy, departuresBy, without, heldFrames, hasPriority, ticksOf, KeepBagAndJitter, Always, Demand3}
 
 -- "The table file reads and writes by the layout, each undoing the other"

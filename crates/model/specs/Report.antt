@@ -1,110 +1,17 @@
--- The port: fresh, fit, and what a report does: refusals in order, advance, filter, police check, store.
+-- What a report does: refusals in order, advance, filter, police check, store.
 use mathlib.Core.Bool.{Bool, true, false, cond, not}
 use mathlib.Core.Option.{Option, none, some}
-use mathlib.Core.List.{List, [], _∷_, _++_, map, flatMap}
+use mathlib.Core.List.{List, [], _∷_, _++_, flatMap}
 use Prim.Native.Nat.{ℕ, zero, suc, _+_, _-_, _*_, min, max}
 use lib.Dec.{eqb, leb, ltb}
-use lib.ListN.{length, getD, set, drop, replicate}
-use Rattle.model.specs.Basics.{allTo, allHold, Check, check, firstMet}
-use Rattle.model.specs.Units.{lastTick, leastLength, greatestLength, occupied, mostFrames}
+use lib.ListN.{length, set, drop}
+use Rattle.model.specs.Basics.{allHold, Check, check, firstMet}
+use Rattle.model.specs.Units.{lastTick, leastLength, greatestLength, occupied}
 use Rattle.model.specs.Link.{VirtualLink, bag, linkAt, placeOf}
-use Rattle.model.specs.Table.{Table, sizeOf, tableRefusal}
-use Rattle.model.specs.Machine.{Frame, Sender, idle, sending, Scheduler, Departure, at, queueOf, headOf, advance, queuedLast, stored, held, framesHeld}
-
--- "for each virtual link a credit and its tick": the token bucket of the police check
-pub record Account : Type 0 where
-  pub credit : ℕ
-  pub tick : ℕ
-
--- The state of a port, its table beside it. Mark: the paper's word for the high-water mark of a buffer
-pub record Port : Type 0 where
-  pub scheduler : Scheduler
-  -- for each priority
-  pub marks : List ℕ
-  -- "for each line the tick of its last frame"
-  pub lineTicks : List ℕ
-  -- for each virtual link, in the table's order
-  pub accounts : List Account
-
-abbrev pub blankAccount : Account
-blankAccount = record { credit = 0; tick = 0 }
-
-abbrev pub accountAt : List Account → ℕ → Account
-accountAt accounts i = getD accounts i blankAccount
-
-abbrev pub markOf : Port → ℕ → ℕ
-markOf s p = getD (s .marks) p 0
-
-abbrev pub lineTick : Port → ℕ → ℕ
-lineTick s ℓ = getD (s .lineTicks) ℓ 0
-
--- "Fresh: clock, ticks and marks 0, queues empty, idle, credit B + J"
-abbrev pub fullAccount : VirtualLink → Account
-fullAccount v = record { credit = bag v + v .jitter; tick = 0 }
-
-unfoldable pub fresh : Table → Port
-fresh t =
-    record {
-      scheduler = at 0 (replicate 8 []) idle;
-      marks = replicate 8 0;
-      lineTicks = replicate (t .lines) 0;
-      accounts = map fullAccount (t .links);
-    }
-
--- ---- fitness
-
--- "queued frames name links of their priority within length limits"
-unfoldable pub namesLink : Table → ℕ → ℕ → Option ℕ → Bool
-namesLink t p len none = false
-namesLink t p len (some i) =
-    allHold (
-    eqb (linkAt (t .links) i .priority) p
-    ∷ leb (linkAt (t .links) i .least) len
-    ∷ leb len (linkAt (t .links) i .greatest)
-    ∷ []
-    )
-
--- "arrival ticks rise or stay equal and are ≤ clock"; low is the arrival tick of the frame before
-unfoldable pub framesFit : Table → ℕ → ℕ → ℕ → List Frame → Bool
-framesFit t p clock low [] = true
-framesFit t p clock low (f ∷ frames) =
-    allHold (
-    namesLink t p (f .length) (placeOf (f .number) (t .links))
-    ∷ leb low (f .arrival)
-    ∷ leb (f .arrival) clock
-    ∷ framesFit t p clock (f .arrival) frames
-    ∷ []
-    )
-
--- "a frame being sent heads its queue, arrived by its start, and start < clock < start + length"
-unfoldable pub senderFit : ℕ → List (List Frame) → Sender → Bool
-senderFit clock queues idle = true
-senderFit clock queues (sending p start) =
-    allHold (
-    ltb p 8
-    ∷ ltb 0 (length (queueOf queues p))
-    ∷ leb (headOf queues p .arrival) start
-    ∷ ltb start clock
-    ∷ ltb clock (start + headOf queues p .length)
-    ∷ []
-    )
-
--- "A port record is fit if" all of these hold, in the paper's order
-unfoldable pub fit : Table → Port → Bool
-fit t s =
-    allHold (
-    eqb (tableRefusal t) 0
-    ∷ leb (s .scheduler .clock) lastTick
-    ∷ allTo (λ p. leb (length (queueOf (s .scheduler .queues) p)) mostFrames) 8
-    ∷ allTo (λ p. framesFit t p (s .scheduler .clock) 0 (queueOf (s .scheduler .queues) p)) 8
-    ∷ allTo (λ p. leb (held (queueOf (s .scheduler .queues) p)) (markOf s p)) 8
-    ∷ allTo (λ p. leb (markOf s p) (sizeOf t p)) 8
-    ∷ allTo (λ ℓ. leb (lineTick s ℓ) (s .scheduler .clock)) (t .lines)
-    ∷ allTo (λ i. leb (accountAt (s .accounts) i .tick) (s .scheduler .clock)) (length (t .links))
-    ∷ allTo (λ i. leb (accountAt (s .accounts) i .credit) (bag (linkAt (t .links) i) + linkAt (t .links) i .jitter)) (length (t .links))
-    ∷ senderFit (s .scheduler .clock) (s .scheduler .queues) (s .scheduler .sender)
-    ∷ []
-    )
+use Rattle.model.specs.Table.{Table, sizeOf}
+use Rattle.model.specs.Machine.{Frame, Departure, queueOf, advance, queuedLast, stored, held, framesHeld}
+use Rattle.model.specs.Port.{Account, Port, accountAt, markOf, lineTick, withScheduler, withLineTick, withAccount}
+use Rattle.model.specs.Fitness.{fit}
 
 -- ---- reports and their refusals
 
@@ -170,10 +77,6 @@ replenished v a time = record { credit = min (bag v + v .jitter) (a .credit + (t
 unfoldable pub charged : VirtualLink → Account → Account
 charged v a = record { credit = a .credit - bag v; tick = a .tick }
 
--- "The account of a virtual link is charged where it stands in the port, no other account being touched"
-abbrev pub withAccount : Port → ℕ → Account → Port
-withAccount s i a = record { scheduler = s .scheduler; marks = s .marks; lineTicks = s .lineTicks; accounts = set (s .accounts) i a }
-
 -- "dropped (3): .. held bytes + length exceed the size"; "stored (0): otherwise; queued last, and the mark rises to the held
 -- bytes if they are more"
 unfoldable pub hasRoom : Table → Port → ℕ → Frame → Bool
@@ -226,12 +129,6 @@ pub record Stepped : Type 0 where
   pub port : Port
   pub answer : Answer
   pub list : List ℕ
-
-abbrev pub withScheduler : Port → Scheduler → Port
-withScheduler s scheduler = record { scheduler = scheduler; marks = s .marks; lineTicks = s .lineTicks; accounts = s .accounts }
-
-abbrev pub withLineTick : Port → ℕ → ℕ → Port
-withLineTick s line time = record { scheduler = s .scheduler; marks = s .marks; lineTicks = set (s .lineTicks) line time; accounts = s .accounts }
 
 abbrev pub arrived : ℕ → ℕ → ℕ → Frame
 arrived number len time = record { number = number; length = len; arrival = time }
