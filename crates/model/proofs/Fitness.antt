@@ -13,7 +13,7 @@ use Rattle.model.specs.Units.{lastTick, occupied, mostFrames}
 use Rattle.model.specs.Link.{bag, linkAt}
 use Rattle.model.specs.Table.{Table, sizeOf, tableRefusal}
 use Rattle.model.specs.Bounds.{upTo, longest}
-use Rattle.model.specs.Machine.{Frame, Sender, idle, sending, queueOf, headOf, advance, ticks, held}
+use Rattle.model.specs.Machine.{Frame, Sender, idle, sending, queueOf, headOf, advance, held}
 use Rattle.model.specs.Port.{Port, accountAt, markOf, lineTick}
 use Rattle.model.specs.Fitness.{framesFit, senderFit, fit}
 use Rattle.model.specs.Report.{Report, wait, frame, tickOf, reportChecks, frameChecks, roomCheck, reportRefusal, Call, acceptedOr, step}
@@ -22,7 +22,7 @@ use Rattle.model.specs.Promises.{NeverUnfit, NoneAppears}
 use Rattle.model.proofs.Checks.{all-true, true-all, all-to, to-all, first-later, Apart, first-apart}
 use Rattle.model.proofs.Curves.{occupied-weight}
 use Rattle.model.proofs.TokenBucket.{credit-top}
-use Rattle.model.proofs.Gate.{gateOf, Good}
+use Rattle.model.proofs.Gate.{Good}
 use Rattle.model.proofs.ValidTable.{Valid, valid}
 use Rattle.model.proofs.BusyPeriod.{Sends, Meets, Sound}
 use Rattle.model.proofs.FramesFreed.{ticks-count}
@@ -47,7 +47,7 @@ sends-fit clock queues n (sending q s) m =
     )
 
 module _ (t : Table) (passes : tableRefusal t ≡ 0) (s : Port) (log : List Entry) (k : Invariant t s log) where
-  good : Good occupied (upTo 0) (t .lines) (t .links) (passedFrames t log) (s .scheduler .clock) (gateOf s)
+  good : Good occupied (upTo 0) (t .lines) (t .links) (passedFrames t log) (s .scheduler .clock) (s .gate)
   good = k .good occupied occupied-weight (upTo 0)
 
   few : (p : ℕ) → p < 8 → length (queueOf (s .scheduler .queues) p) ≤ mostFrames
@@ -77,14 +77,14 @@ module _ (t : Table) (passes : tableRefusal t ≡ 0) (s : Port) (log : List Entr
                 (
                   to-all _ 8 (λ p l. le-leb (markOf s p) (sizeOf t p) (k .ordered .within p l)),
                   (
-                    to-all _ (t .lines) (λ ℓ l. le-leb (lineTick s ℓ) (s .scheduler .clock) (good .line-past ℓ l)),
+                    to-all _ (t .lines) (λ ℓ l. le-leb (lineTick (s .gate .lineTicks) ℓ) (s .scheduler .clock) (good .line-past ℓ l)),
                     (
-                      to-all _ (length (t .links)) (λ i l. le-leb (accountAt (s .accounts) i .tick) (s .scheduler .clock) (good .account-past i l)),
+                      to-all _ (length (t .links)) (λ i l. le-leb (accountAt (s .gate .accounts) i .tick) (s .scheduler .clock) (good .account-past i l)),
                       (
                         to-all _ (length (t .links))
                             (λ i l.
-                            le-leb (accountAt (s .accounts) i .credit) (bag (linkAt (t .links) i) + linkAt (t .links) i .jitter)
-                            (credit-top (linkAt (t .links) i) (passedFrames t log) (accountAt (s .accounts) i) (good .credited i l))),
+                            le-leb (accountAt (s .gate .accounts) i .credit) (bag (linkAt (t .links) i) + linkAt (t .links) i .jitter)
+                            (credit-top (linkAt (t .links) i) (passedFrames t log) (accountAt (s .gate .accounts) i) (good .credited i l))),
                         (sends-fit (s .scheduler .clock) (s .scheduler .queues) (k .ordered .sound .eight) (s .scheduler .sender) (k .ordered .sound .sends), tt),
                       ),
                     ),
@@ -138,9 +138,9 @@ pub record Fit (t : Table) (s : Port) : Type 0 where
   pub lined : (p : ℕ) → p < 8 → Lined t p (s .scheduler .clock) 0 (queueOf (s .scheduler .queues) p)
   pub below : (p : ℕ) → p < 8 → held (queueOf (s .scheduler .queues) p) ≤ markOf s p
   pub within : (p : ℕ) → p < 8 → markOf s p ≤ sizeOf t p
-  pub lines-past : (ℓ : ℕ) → ℓ < t .lines → lineTick s ℓ ≤ s .scheduler .clock
-  pub accounts-past : (i : ℕ) → i < length (t .links) → accountAt (s .accounts) i .tick ≤ s .scheduler .clock
-  pub accounts-top : (i : ℕ) → i < length (t .links) → accountAt (s .accounts) i .credit ≤ bag (linkAt (t .links) i) + linkAt (t .links) i .jitter
+  pub lines-past : (ℓ : ℕ) → ℓ < t .lines → lineTick (s .gate .lineTicks) ℓ ≤ s .scheduler .clock
+  pub accounts-past : (i : ℕ) → i < length (t .links) → accountAt (s .gate .accounts) i .tick ≤ s .scheduler .clock
+  pub accounts-top : (i : ℕ) → i < length (t .links) → accountAt (s .gate .accounts) i .credit ≤ bag (linkAt (t .links) i) + linkAt (t .links) i .jitter
   pub sender : senderFit (s .scheduler .clock) (s .scheduler .queues) (s .scheduler .sender) ≡ true
 
 pub fit-is : (t : Table) (s : Port) → fit t s ≡ true → Fit t s
@@ -157,12 +157,12 @@ fit-is t s e =
           (all-to (λ q. framesFit t q (s .scheduler .clock) 0 (queueOf (s .scheduler .queues) q)) 8 (all .1 .1 .1 .0) p l);
       below = λ p l. leb-true _ _ (all-to (λ q. leb (held (queueOf (s .scheduler .queues) q)) (markOf s q)) 8 (all .1 .1 .1 .1 .0) p l);
       within = λ p l. leb-true _ _ (all-to (λ q. leb (markOf s q) (sizeOf t q)) 8 (all .1 .1 .1 .1 .1 .0) p l);
-      lines-past = λ ℓ l. leb-true _ _ (all-to (λ k. leb (lineTick s k) (s .scheduler .clock)) (t .lines) (all .1 .1 .1 .1 .1 .1 .0) ℓ l);
-      accounts-past = λ i l. leb-true _ _ (all-to (λ k. leb (accountAt (s .accounts) k .tick) (s .scheduler .clock)) (length (t .links)) (all .1 .1 .1 .1 .1 .1 .1 .0) i l);
+      lines-past = λ ℓ l. leb-true _ _ (all-to (λ k. leb (lineTick (s .gate .lineTicks) k) (s .scheduler .clock)) (t .lines) (all .1 .1 .1 .1 .1 .1 .0) ℓ l);
+      accounts-past = λ i l. leb-true _ _ (all-to (λ k. leb (accountAt (s .gate .accounts) k .tick) (s .scheduler .clock)) (length (t .links)) (all .1 .1 .1 .1 .1 .1 .1 .0) i l);
       accounts-top =
           λ i l.
           leb-true _ _
-          (all-to (λ k. leb (accountAt (s .accounts) k .credit) (bag (linkAt (t .links) k) + linkAt (t .links) k .jitter)) (length (t .links)) (all .1 .1 .1 .1 .1 .1 .1 .1 .0) i l);
+          (all-to (λ k. leb (accountAt (s .gate .accounts) k .credit) (bag (linkAt (t .links) k) + linkAt (t .links) k .jitter)) (length (t .links)) (all .1 .1 .1 .1 .1 .1 .1 .1 .0) i l);
       sender = all .1 .1 .1 .1 .1 .1 .1 .1 .1 .0;
     }
 

@@ -58,9 +58,9 @@ fit t s =
     ∷ allTo (λ p. framesFit t p (s .scheduler .clock) 0 (queueOf (s .scheduler .queues) p)) 8
     ∷ allTo (λ p. leb (held (queueOf (s .scheduler .queues) p)) (markOf s p)) 8
     ∷ allTo (λ p. leb (markOf s p) (sizeOf t p)) 8
-    ∷ allTo (λ ℓ. leb (lineTick s ℓ) (s .scheduler .clock)) (t .lines)
-    ∷ allTo (λ i. leb (accountAt (s .accounts) i .tick) (s .scheduler .clock)) (length (t .links))
-    ∷ allTo (λ i. leb (accountAt (s .accounts) i .credit) (bag (linkAt (t .links) i) + linkAt (t .links) i .jitter)) (length (t .links))
+    ∷ allTo (λ ℓ. leb (lineTick (s .gate .lineTicks) ℓ) (s .scheduler .clock)) (t .lines)
+    ∷ allTo (λ i. leb (accountAt (s .gate .accounts) i .tick) (s .scheduler .clock)) (length (t .links))
+    ∷ allTo (λ i. leb (accountAt (s .gate .accounts) i .credit) (bag (linkAt (t .links) i) + linkAt (t .links) i .jitter)) (length (t .links))
     ∷ senderFit (s .scheduler .clock) (s .scheduler .queues) (s .scheduler .sender)
     ∷ []
     )

@@ -11,15 +11,19 @@ pub record Account : Type 0 where
   pub credit : ℕ
   pub tick : ℕ
 
--- The state of a port, its table beside it. Mark: the paper's word for the high-water mark of a buffer
+-- "for each line the tick of its last frame, for each virtual link a credit and its tick". Gate is our word for the part of a
+-- port that the timing of the lines and the police check read and change; queues do not enter
+pub record Gate : Type 0 where
+  pub lineTicks : List ℕ
+  -- in the table's order
+  pub accounts : List Account
+
+-- The state of a port, its table beside it
 pub record Port : Type 0 where
   pub scheduler : Scheduler
-  -- for each priority
+  -- "for each priority a queue .. and its mark": the most that its buffer has held
   pub marks : List ℕ
-  -- "for each line the tick of its last frame"
-  pub lineTicks : List ℕ
-  -- for each virtual link, in the table's order
-  pub accounts : List Account
+  pub gate : Gate
 
 abbrev pub blankAccount : Account
 blankAccount = record { credit = 0; tick = 0 }
@@ -27,11 +31,11 @@ blankAccount = record { credit = 0; tick = 0 }
 abbrev pub accountAt : List Account → ℕ → Account
 accountAt accounts i = getD accounts i blankAccount
 
+abbrev pub lineTick : List ℕ → ℕ → ℕ
+lineTick ticks ℓ = getD ticks ℓ 0
+
 abbrev pub markOf : Port → ℕ → ℕ
 markOf s p = getD (s .marks) p 0
-
-abbrev pub lineTick : Port → ℕ → ℕ
-lineTick s ℓ = getD (s .lineTicks) ℓ 0
 
 -- "Fresh: clock, ticks and marks 0, queues empty, idle, credit B + J"
 abbrev pub fullAccount : VirtualLink → Account
@@ -42,16 +46,20 @@ fresh t =
     record {
       scheduler = at 0 (replicate 8 []) idle;
       marks = replicate 8 0;
-      lineTicks = replicate (t .lines) 0;
-      accounts = map fullAccount (t .links);
+      gate = record { lineTicks = replicate (t .lines) 0; accounts = map fullAccount (t .links) };
     }
 
+-- ---- with one part changed
 abbrev pub withScheduler : Port → Scheduler → Port
-withScheduler s scheduler = record { scheduler = scheduler; marks = s .marks; lineTicks = s .lineTicks; accounts = s .accounts }
+withScheduler s scheduler = record { scheduler = scheduler; marks = s .marks; gate = s .gate }
 
-abbrev pub withLineTick : Port → ℕ → ℕ → Port
-withLineTick s line time = record { scheduler = s .scheduler; marks = s .marks; lineTicks = set (s .lineTicks) line time; accounts = s .accounts }
+abbrev pub withGate : Port → Gate → Port
+withGate s g = record { scheduler = s .scheduler; marks = s .marks; gate = g }
+
+-- "sets the line's tick to T"
+abbrev pub withLineTick : Gate → ℕ → ℕ → Gate
+withLineTick g line time = record { lineTicks = set (g .lineTicks) line time; accounts = g .accounts }
 
 -- "The account of a virtual link is charged where it stands in the port, no other account being touched"
-abbrev pub withAccount : Port → ℕ → Account → Port
-withAccount s i a = record { scheduler = s .scheduler; marks = s .marks; lineTicks = s .lineTicks; accounts = set (s .accounts) i a }
+abbrev pub withAccount : Gate → ℕ → Account → Gate
+withAccount g i a = record { lineTicks = g .lineTicks; accounts = set (g .accounts) i a }

@@ -10,7 +10,7 @@ use Rattle.model.specs.Units.{lastTick, leastLength, greatestLength, occ
 use Rattle.model.specs.Link.{VirtualLink, bag, linkAt, placeOf}
 use Rattle.model.specs.Table.{Table, sizeOf}
 use Rattle.model.specs.Machine.{Frame, Departure, queueOf, advance, queuedLast, stored, held, framesHeld}
-use Rattle.model.specs.Port.{Account, Port, accountAt, markOf, lineTick, withScheduler, withLineTick, withAccount}
+use Rattle.model.specs.Port.{Account, Gate, Port, accountAt, lineTick, markOf, withScheduler, withGate, withLineTick, withAccount}
 use Rattle.model.specs.Fitness.{fit}
 
 -- ---- reports and their refusals
@@ -31,7 +31,7 @@ frameChecks t s (wait time) = []
 frameChecks t s (frame time line number len) =
     check 13 (leb (t .lines) line)
     ∷ check 14 (not (allHold (leb leastLength len ∷ leb len greatestLength ∷ [])))
-    ∷ check 15 (ltb time (lineTick s line + len))
+    ∷ check 15 (ltb time (lineTick (s .gate .lineTicks) line + len))
     ∷ []
 
 -- 10 to 15
@@ -69,19 +69,46 @@ unfoldable pub admitted : Table → ℕ → ℕ → Option ℕ → Option ℕ
 admitted t line len none = none
 admitted t line len (some i) = cond (admits (linkAt (t .links) i) line len) (some i) none
 
--- "credit becomes the smaller of B + J and credit + T − its tick, its tick becomes T"
-unfoldable pub replenished : VirtualLink → Account → ℕ → Account
-replenished v a time = record { credit = min (bag v + v .jitter) (a .credit + (time - a .tick)); tick = time }
+-- ---- the police check: it changes the gate alone
+
+-- "credit becomes the smaller of B + J and credit + T − its tick, its tick becomes T"; B and J first
+unfoldable pub replenished : ℕ → ℕ → Account → ℕ → Account
+replenished B J a time = record { credit = min (B + J) (a .credit + (time - a .tick)); tick = time }
 
 -- "otherwise B is taken off"
-unfoldable pub charged : VirtualLink → Account → Account
-charged v a = record { credit = a .credit - bag v; tick = a .tick }
+unfoldable pub charged : ℕ → Account → Account
+charged B a = record { credit = a .credit - B; tick = a .tick }
 
--- "dropped (3): .. held bytes + length exceed the size"; "stored (0): otherwise; queued last, and the mark rises to the held
--- bytes if they are more"
-unfoldable pub hasRoom : Table → Port → ℕ → Frame → Bool
-hasRoom t s p f = leb (held (queueOf (s .scheduler .queues) p) + occupied (f .length)) (sizeOf t p)
+-- whether a frame passes, and the account after it
+pub record Checked : Type 0 where
+  pub passed : Bool
+  pub account : Account
 
+-- "policed (2): .. and credit is below B"
+unfoldable pub checkedIf : Bool → ℕ → Account → Checked
+checkedIf false B a = record { passed = false; account = a }
+checkedIf true B a = record { passed = true; account = charged B a }
+
+unfoldable pub police : ℕ → ℕ → Account → ℕ → Checked
+police B J a time = let r = replenished B J a time in checkedIf (leb B (r .credit)) B r
+
+-- the check of the account at place i, where it stands: whether a frame passes, and the gate after it
+pub record Policed : Type 0 where
+  pub passed : Bool
+  pub gate : Gate
+
+unfoldable pub policeAt : ℕ → ℕ → Gate → ℕ → ℕ → Policed
+policeAt B J g i time =
+    let c = police B J (accountAt (g .accounts) i) time in
+    record { passed = c .passed; gate = withAccount g i (c .account) }
+
+-- ---- the store: it changes the scheduler and the marks alone
+
+-- not "held bytes + length exceed the size": size, queue, frame
+unfoldable pub hasRoom : ℕ → List Frame → Frame → Bool
+hasRoom size queue f = leb (held queue + occupied (f .length)) size
+
+-- "dropped (3)"; "stored (0): otherwise; queued last, and the mark rises to the held bytes if they are more"
 unfoldable pub storedIf : Bool → Port → ℕ → Frame → Judged
 storedIf false s p f = judged s 3
 storedIf true s p f =
@@ -89,25 +116,26 @@ storedIf true s p f =
     (record {
       scheduler = stored (s .scheduler) p f;
       marks = set (s .marks) p (max (markOf s p) (held (queueOf (queuedLast (s .scheduler .queues) p f) p)));
-      lineTicks = s .lineTicks;
-      accounts = s .accounts;
+      gate = s .gate;
     })
     0
 
--- "policed (2): .. and credit is below B"
-unfoldable pub passedIf : Bool → Table → Port → ℕ → Account → Frame → Judged
-passedIf false t s i a f = judged (withAccount s i a) 2
-passedIf true t s i a f =
-    let v = linkAt (t .links) i in
-    let charge = withAccount s i (charged v a) in
-    storedIf (hasRoom t charge (v .priority) f) charge (v .priority) f
+unfoldable pub store : Table → Port → ℕ → Frame → Judged
+store t s p f = storedIf (hasRoom (sizeOf t p) (queueOf (s .scheduler .queues) p) f) s p f
+
+-- ---- filter, police check, store
+
+-- of a port after the police check: policed (2), or stored or dropped
+unfoldable pub passedIf : Bool → Table → Port → ℕ → Frame → Judged
+passedIf false t s p f = judged s 2
+passedIf true t s p f = store t s p f
 
 unfoldable pub judge : Table → Port → Frame → Option ℕ → Judged
 judge t s f none = judged s 1
 judge t s f (some i) =
     let v = linkAt (t .links) i in
-    let a = replenished v (accountAt (s .accounts) i) (f .arrival) in
-    passedIf (leb (bag v) (a .credit)) t s i a f
+    let c = policeAt (bag v) (v .jitter) (s .gate) i (f .arrival) in
+    passedIf (c .passed) t (withGate s (c .gate)) (v .priority) f
 
 -- ---- a report
 
@@ -137,7 +165,7 @@ arrived number len time = record { number = number; length = len; arrival = time
 unfoldable pub judgeReport : Table → Port → Report → Judged
 judgeReport t s (wait time) = judged s 0
 judgeReport t s (frame time line number len) =
-    judge t (withLineTick s line time) (arrived number len time) (admitted t line len (placeOf number (t .links)))
+    judge t (withGate s (withLineTick (s .gate) line time)) (arrived number len time) (admitted t line len (placeOf number (t .links)))
 
 -- "Departures go to a lent list .. three each: number, length, tick freed; the rest of the list stays"
 abbrev pub threeNumbers : Departure → List ℕ
