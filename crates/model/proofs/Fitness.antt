@@ -8,7 +8,7 @@ use native.Mathlib.Omega.{arith}
 use lib.Dec.{eqb, leb, ltb}
 use borrow.Author.Tests.{eq-eqb, eqb-true, le-leb, leb-true, lt-ltb, ltb-true}
 use lib.ListN.{length, getD, List·getD-eq-default}
-use Rattle.model.specs.Basics.{Each, done, check}
+use Rattle.model.specs.Basics.{Each, done}
 use Rattle.model.specs.Units.{lastTick, occupied, mostFrames}
 use Rattle.model.specs.Link.{bag, linkAt}
 use Rattle.model.specs.Table.{Table, sizeOf, tableRefusal}
@@ -16,16 +16,17 @@ use Rattle.model.specs.Bounds.{upTo, longest}
 use Rattle.model.specs.Machine.{Frame, Sender, idle, sending, queueOf, headOf, advance, held}
 use Rattle.model.specs.Port.{Port, accountAt, markOf, lineTick}
 use Rattle.model.specs.Fitness.{framesFit, senderFit, fit}
-use Rattle.model.specs.Report.{Report, wait, frame, tickOf, reportChecks, frameChecks, roomCheck, reportRefusal, Call, acceptedOr, step}
+use Rattle.model.specs.Report.{reportRefusal, Call, acceptedOr, step}
 use Rattle.model.specs.Run.{Entry, run, Always, start, then}
 use Rattle.model.specs.Promises.{NeverUnfit, NoneAppears}
-use Rattle.model.proofs.Checks.{all-true, true-all, all-to, to-all, first-later, Apart, first-apart}
+use Rattle.model.proofs.Checks.{all-true, true-all, all-to, to-all}
 use Rattle.model.proofs.Curves.{occupied-weight}
 use Rattle.model.proofs.TokenBucket.{credit-top}
 use Rattle.model.proofs.Gate.{Good}
 use Rattle.model.proofs.ValidTable.{Valid, valid}
 use Rattle.model.proofs.BusyPeriod.{Sends, Meets, Sound}
 use Rattle.model.proofs.FramesFreed.{ticks-count}
+use Rattle.model.proofs.Refusals.{refusal-apart}
 use Rattle.model.proofs.Lined.{Lined, lined-fit, fit-lined, lined-count, lined-meets}
 use Rattle.model.proofs.Log.{passedFrames}
 use Rattle.model.proofs.Invariant.{Invariant, run-kept}
@@ -97,17 +98,6 @@ module _ (t : Table) (passes : tableRefusal t ≡ 0) (s : Port) (log : List Entr
       )
 
 -- ---- so no report is refused with 10
-others : (t : Table) (s : Port) (r : Report) (room : ℕ) → Apart 10 (check 11 (ltb lastTick (tickOf r)) ∷ check 12 (ltb (tickOf r) (s .scheduler .clock)) ∷ (frameChecks t s r ++ (roomCheck s room ∷ [])))
-unfolding frameChecks tickOf
-others t s (wait time) room = omega arith
-others t s (frame time line number len) room = omega arith
-
-refusal-apart : (t : Table) (s : Port) (r : Report) (room : ℕ) → fit t s ≡ true → reportRefusal t s r room ≡ 10 → ⊥
-unfolding reportRefusal reportChecks
-refusal-apart t s r room e x =
-    first-apart 10 (check 11 (ltb lastTick (tickOf r)) ∷ check 12 (ltb (tickOf r) (s .scheduler .clock)) ∷ (frameChecks t s r ++ (roomCheck s room ∷ []))) (omega arith) (others t s r room)
-    (sym (first-later (check 10 (not (fit t s))) _ (rw e)) ∙ x)
-
 refused-is : (n : ℕ) (t : Table) (s : Port) (c : Call) → acceptedOr n t s c .answer .refused ≡ n
 unfolding acceptedOr
 refused-is zero t s c = refl

@@ -27,6 +27,7 @@ pub mod FramesFreed
 pub mod QueueSteps
 pub mod Ledger
 pub mod Departures
+pub mod Refusals
 pub mod Stepping
 pub mod Lined
 pub mod Log

@@ -14,9 +14,10 @@ use Rattle.model.specs.Link.{VirtualLink, bag, linkAt, placeOf}
 use Rattle.model.specs.Table.{Table, sizeOf}
 use Rattle.model.specs.Machine.{Frame, Departure, queueOf, advance, held}
 use Rattle.model.specs.Port.{Port, lineTick, withScheduler, withGate, withLineTick, withAccount}
-use Rattle.model.specs.Report.{Report, wait, frame, tickOf, frameChecks, reportChecks, roomCheck, reportRefusal, Judged, judged, admits, admitted, Checked, checkedIf, police, policeAt, hasRoom, storedIf, store, passedIf, judge, Stepped, arrived, judgeReport, listed, answered, refusal, acceptedOr, step}
-use Rattle.model.proofs.Checks.{all-true, Numbered, NoneMet, none-met}
+use Rattle.model.specs.Report.{Report, wait, frame, tickOf, frameChecks, reportChecks, allChecks, reportRefusal, Judged, judged, admits, admitted, Checked, checkedIf, police, policeAt, hasRoom, storedIf, store, passedIf, judge, Stepped, arrived, judgeReport, listed, answered, refusal, acceptedOr, step}
+use Rattle.model.proofs.Checks.{all-true, NoneMet}
 use Rattle.model.proofs.Gate.{renewed, reduced}
+use Rattle.model.proofs.Refusals.{unrefused}
 
 -- ---- the place of a number
 pub record Placed (n : ℕ) (links : List VirtualLink) (i : ℕ) : Type 0 where
@@ -145,8 +146,8 @@ pub data Stepping (t : Table) (s : Port) (list : List ℕ) : Report → Stepped 
       → Stepping t s list (frame time line number len) (accepts j (freedBy s time) list)
 
 module _ (t : Table) (s : Port) (list : List ℕ) where
-  accepting : (r : Report) → NoneMet (reportChecks t s r ++ (roomCheck s (length list) ∷ [])) → Stepping t s list r (acceptedOr 0 t s (record { report = r; list = list }))
-  unfolding reportChecks frameChecks tickOf acceptedOr judgeReport
+  accepting : (r : Report) → NoneMet (allChecks t s r (length list)) → Stepping t s list r (acceptedOr 0 t s (record { report = r; list = list }))
+  unfolding allChecks reportChecks frameChecks tickOf acceptedOr judgeReport
   accepting (wait time) pass = waits time (record { from = ltb-false time (s .scheduler .clock) (pass .1 .1 .0); soon = ltb-false lastTick time (pass .1 .0) })
   accepting (frame time line number len) pass =
       let all = all-true _ (not-false _ (pass .1 .1 .1 .1 .0)) in
@@ -160,15 +161,10 @@ module _ (t : Table) (s : Port) (list : List ℕ) where
       })
       (judgement t (reached s time line) time line number len)
 
-  numbered : (r : Report) → Numbered 16 (reportChecks t s r ++ (roomCheck s (length list) ∷ []))
-  unfolding reportChecks frameChecks
-  numbered (wait time) = omega arith
-  numbered (frame time line number len) = omega arith
-
   pub stepping : (r : Report) → Stepping t s list r (step t s (record { report = r; list = list }))
   unfolding step reportRefusal acceptedOr
   stepping r = go (reportRefusal t s r (length list)) refl
     where
       go : (n : ℕ) → reportRefusal t s r (length list) ≡ n → Stepping t s list r (acceptedOr n t s (record { report = r; list = list }))
-      go zero e = accepting r (none-met 16 (reportChecks t s r ++ (roomCheck s (length list) ∷ [])) (numbered r) e)
+      go zero e = accepting r (unrefused t s r (length list) e)
       go (suc n) e = refuses n

@@ -25,30 +25,37 @@ unfoldable pub tickOf : Report → ℕ
 tickOf (wait time) = time
 tickOf (frame time line number len) = time
 
--- 13 to 15, of a frame report alone
-unfoldable pub frameChecks : Table → Port → Report → List Check
-frameChecks t s (wait time) = []
-frameChecks t s (frame time line number len) =
-    check 13 (leb (t .lines) line)
+-- 10: "port not fit"
+abbrev pub fitCheck : Table → Port → Check
+fitCheck t s = check 10 (not (fit t s))
+
+-- 13 to 15, of a frame report alone, by the line count and the line ticks
+unfoldable pub frameChecks : ℕ → List ℕ → Report → List Check
+frameChecks lines ticks (wait time) = []
+frameChecks lines ticks (frame time line number len) =
+    check 13 (leb lines line)
     ∷ check 14 (not (allHold (leb leastLength len ∷ leb len greatestLength ∷ [])))
-    ∷ check 15 (ltb time (lineTick (s .gate .lineTicks) line + len))
+    ∷ check 15 (ltb time (lineTick ticks line + len))
     ∷ []
 
--- 10 to 15
-unfoldable pub reportChecks : Table → Port → Report → List Check
-reportChecks t s r =
-    check 10 (not (fit t s))
-    ∷ check 11 (ltb lastTick (tickOf r))
-    ∷ check 12 (ltb (tickOf r) (s .scheduler .clock))
-    ∷ frameChecks t s r
+-- 11 to 15, of a port that is fit, by its clock too: "then T above 2^48 − 1", "then T below clock", then those of a frame
+unfoldable pub reportChecks : ℕ → ℕ → List ℕ → Report → List Check
+reportChecks clock lines ticks r = check 11 (ltb lastTick (tickOf r)) ∷ check 12 (ltb (tickOf r) clock) ∷ frameChecks lines ticks r
 
 -- 16: "last: list shorter than 3 × frames held before the report"
-abbrev pub roomCheck : Port → ℕ → Check
-roomCheck s room = check 16 (ltb room (3 * framesHeld (s .scheduler .queues)))
+abbrev pub roomCheck : ℕ → ℕ → Check
+roomCheck frames room = check 16 (ltb room (3 * frames))
 
--- 0, or the first of 10 to 16 that a report meets that is lent a list of that length
+-- 10 to 16, of a report that is lent a list of that length
+unfoldable pub allChecks : Table → Port → Report → ℕ → List Check
+allChecks t s r room =
+    fitCheck t s
+    ∷ reportChecks (s .scheduler .clock) (t .lines) (s .gate .lineTicks) r
+    ++ (roomCheck (framesHeld (s .scheduler .queues)) room ∷ [])
+
+-- 0, or the first of them that it meets
 unfoldable pub reportRefusal : Table → Port → Report → ℕ → ℕ
-reportRefusal t s r room = firstMet (reportChecks t s r ++ (roomCheck s room ∷ []))
+reportRefusal t s r room = firstMet (allChecks t s r room)
 
 -- ---- the verdict of a frame that arrived
 
