@@ -33,6 +33,7 @@ pub mod Lined
 pub mod Log
 pub mod Invariant
 pub mod Fitness
+pub mod FitKept
 pub mod Levels
 pub mod Demand
 pub mod Later
