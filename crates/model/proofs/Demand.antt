@@ -87,7 +87,7 @@ keeping-past v e log k = go (throughBy e) k
 -- ---- what is kept beside the invariant
 
 -- the clauses of demand 3 about what came before
-pub record Said (t : Table) (log : List Entry) : Type 0 where
+pub record SaidSoFar (t : Table) (log : List Entry) : Type 0 where
   pub within : (p : ℕ) → p < 8 → mostHeld t p log ≤ bound t p
   pub in-time : (p : ℕ) → p < 8 → Always (λ e log. accepted (e .answer) ≡ true → Each (λ f. tickOf (e .report) < f .arrival + hold t p) (heldOf t p (e ∷ log))) log
   pub no-drop : (p : ℕ) → p < 8 → bound t p ≤ sizeOf t p → Always (λ e log. (f : Frame) → droppedBy e ≡ some f → hasPriority t p f ≡ true → ⊥) log
@@ -99,13 +99,13 @@ abbrev pub AllPaid : Table → List Account → List Entry → Type 0
 AllPaid t accounts log = (i : ℕ) → i < length (t .links) → LinkKeeps (linkAt (t .links) i) log
     → Paid (linkAt (t .links) i) (ticksOf throughBy (linkAt (t .links) i .number) log) (accountAt accounts i)
 
-pub record Kept (t : Table) (s : Port) (log : List Entry) : Type 0 where
+pub record DemandKept (t : Table) (s : Port) (log : List Entry) : Type 0 where
   pub invariant : Invariant t s log
   pub levels : Levels t (passedFrames t log) (s .scheduler)
   pub booked : Booked t (heldFrames log) (s .scheduler .queues)
   pub marked : (p : ℕ) → p < 8 → markOf s p ≡ mostHeld t p log
   pub paid : AllPaid t (s .gate .accounts) log
-  pub said : Said t log
+  pub said : SaidSoFar t log
 
 -- what a buffer holds is at most the most that it has held
 held-most : (t : Table) (log : List Entry) (queues : List (List Frame)) → Booked t (heldFrames log) queues → (p : ℕ) → p < 8 → held (queueOf queues p) ≤ mostHeld t p log
@@ -121,7 +121,7 @@ module _ (t : Table) (log : List Entry) (e : Entry) (s : Port) (i' : Invariant t
       → ((p : ℕ) → p < 8 → bound t p ≤ sizeOf t p → (f : Frame) → droppedBy e ≡ some f → hasPriority t p f ≡ true → ⊥)
       → ((i : ℕ) → i < length (t .links) → LinkKeeps (linkAt (t .links) i) (e ∷ log) → (f : Frame) → policedBy e ≡ some f → f .number ≡ linkAt (t .links) i .number → ⊥)
       → AllPaid t (s .gate .accounts) (e ∷ log)
-      → Said t log → Kept t s (e ∷ log)
+      → SaidSoFar t log → DemandKept t s (e ∷ log)
   unfolding mostHeld heldOf
   finish levels books mark time drop police paid said =
       record {
@@ -147,8 +147,8 @@ module _ (t : Table) (log : List Entry) (e : Entry) (s : Port) (i' : Invariant t
       }
 
 -- ---- a report
-module _ (t : Table) (b : HasBounds t) (v : Valid t) (s : Port) (log : List Entry) (k : Kept t s log) (list : List ℕ) where
-  refused-kept : (r : Report) (n : ℕ) → Invariant t s (declined r n list ∷ log) → Kept t s (declined r n list ∷ log)
+module _ (t : Table) (b : HasBounds t) (v : Valid t) (s : Port) (log : List Entry) (k : DemandKept t s log) (list : List ℕ) where
+  refused-kept : (r : Report) (n : ℕ) → Invariant t s (declined r n list ∷ log) → DemandKept t s (declined r n list ∷ log)
   unfolding heldFrames andLast withoutAll storedBy droppedBy policedBy throughBy passedFrames passedBy andPassed
   refused-kept r n i' =
       finish t log (declined r n list) s i'
@@ -189,7 +189,7 @@ module _ (t : Table) (b : HasBounds t) (v : Valid t) (s : Port) (log : List Entr
     unfolding heldFrames
     books-taken r verdict queues x = rw (departures-taken r verdict out list) x
 
-    waited-kept : Invariant t (movedTo s time) (taken (wait time) 0 out list ∷ log) → Kept t (movedTo s time) (taken (wait time) 0 out list ∷ log)
+    waited-kept : Invariant t (movedTo s time) (taken (wait time) 0 out list ∷ log) → DemandKept t (movedTo s time) (taken (wait time) 0 out list ∷ log)
     unfolding andLast storedBy droppedBy policedBy throughBy frameIf passedFrames passedBy andPassed tickOf
     waited-kept i' =
         finish t log (taken (wait time) 0 out list) (movedTo s time) i' levels
@@ -211,7 +211,7 @@ module _ (t : Table) (b : HasBounds t) (v : Valid t) (s : Port) (log : List Entr
       abbrev port : Port
       port = reached s time line
 
-      filtered-kept : Invariant t port (this 1 ∷ log) → Kept t port (this 1 ∷ log)
+      filtered-kept : Invariant t port (this 1 ∷ log) → DemandKept t port (this 1 ∷ log)
       unfolding andLast storedBy droppedBy policedBy throughBy frameIf accepted passedFrames passedBy andPassed tickOf
       filtered-kept i' =
           finish t log (this 1) port i' levels
@@ -252,7 +252,7 @@ module _ (t : Table) (b : HasBounds t) (v : Valid t) (s : Port) (log : List Entr
             omega (arith, paid-covers vl known (accountAt (s .gate .accounts) i) time keeps ticked (k .paid i (a .at-place) (keeping-before vl known time keeps)))
 
         policed-kept : renewed (t .links) (s .gate) i time .credit < bag vl → Invariant t (policedPort t port i time) (this 2 ∷ log)
-            → Kept t (policedPort t port i time) (this 2 ∷ log)
+            → DemandKept t (policedPort t port i time) (this 2 ∷ log)
         unfolding andLast storedBy droppedBy policedBy throughBy frameIf accepted passedFrames passedBy andPassed tickOf
         policed-kept c i' =
             finish t log (this 2) (policedPort t port i time) i' levels
@@ -317,7 +317,7 @@ module _ (t : Table) (b : HasBounds t) (v : Valid t) (s : Port) (log : List Entr
             (λ keeps. paid-charged vl known (accountAt (s .gate .accounts) i) time ticked c (k .paid i (a .at-place) (keeping-before vl known time keeps)))
 
         dropped-kept : bag vl ≤ renewed (t .links) (s .gate) i time .credit → sizeOf t p < held (queueOf (st .queues) p) + occupied len
-            → Invariant t (chargedPort t port i time) (this 3 ∷ log) → Kept t (chargedPort t port i time) (this 3 ∷ log)
+            → Invariant t (chargedPort t port i time) (this 3 ∷ log) → DemandKept t (chargedPort t port i time) (this 3 ∷ log)
         unfolding andLast storedBy droppedBy policedBy throughBy frameIf accepted passedFrames passedBy tickOf
         dropped-kept c full i' =
             finish t log (this 3) (chargedPort t port i time) i' without-it
@@ -337,7 +337,7 @@ module _ (t : Table) (b : HasBounds t) (v : Valid t) (s : Port) (log : List Entr
                 omega (arith, grows, held-bound t passing (stored st p it) (chargedPort t port i time .gate) sound-with-it (i' .good) with-it p p-below)
 
         stored-kept : bag vl ≤ renewed (t .links) (s .gate) i time .credit → Invariant t (storedIf true (chargedPort t port i time) p it .port) (this 0 ∷ log)
-            → Kept t (storedIf true (chargedPort t port i time) p it .port) (this 0 ∷ log)
+            → DemandKept t (storedIf true (chargedPort t port i time) p it .port) (this 0 ∷ log)
         unfolding andLast storedBy droppedBy policedBy throughBy frameIf accepted passedFrames passedBy tickOf storedIf
         stored-kept c i' =
             finish t log (this 0) (storedIf true (chargedPort t port i time) p it .port) i' with-it
@@ -360,20 +360,20 @@ module _ (t : Table) (b : HasBounds t) (v : Valid t) (s : Port) (log : List Entr
             marks-are q m (no n) =
                 rw (getD-set-other (s .marks), n, getD-set-other (st .queues) p q (queueOf (st .queues) p ++ (it ∷ [])) [] n) (omega (arith, k .marked q m, less q m))
 
-      judged-kept : {j : Judged} → Judgement t port time line number len j → Invariant t (j .port) (this (j .verdict) ∷ log) → Kept t (j .port) (this (j .verdict) ∷ log)
+      judged-kept : {j : Judged} → Judgement t port time line number len j → Invariant t (j .port) (this (j .verdict) ∷ log) → DemandKept t (j .port) (this (j .verdict) ∷ log)
       unfolding storedIf
       judged-kept filters i' = filtered-kept i'
       judged-kept (polices i a c) i' = policed-kept i a c i'
       judged-kept (drops i a c full) i' = dropped-kept i a c full i'
       judged-kept (stores i a c room) i' = stored-kept i a c i'
 
-  kept-after : {r : Report} {x : Stepped} → Stepping t s list r x → Invariant t (x .port) (entryOf r x ∷ log) → Kept t (x .port) (entryOf r x ∷ log)
+  kept-after : {r : Report} {x : Stepped} → Stepping t s list r x → Invariant t (x .port) (entryOf r x ∷ log) → DemandKept t (x .port) (entryOf r x ∷ log)
   kept-after (refuses {r = r} n) i' = refused-kept r n i'
   kept-after (waits time timely) i' = waited-kept time timely i'
   kept-after (frames time line number len timely arrives j) i' = judged-kept time timely line number len arrives j i'
 
 -- ---- the fresh port
-fresh-demand : (t : Table) → HasBounds t → Kept t (fresh t) []
+fresh-demand : (t : Table) → HasBounds t → DemandKept t (fresh t) []
 unfolding fresh heldFrames only mostHeld ticksOf passedFrames Before
 fresh-demand t b =
     record {
@@ -395,7 +395,7 @@ fresh-demand t b =
     }
 
 -- ---- every list of reports
-pub run-demand : (t : Table) → HasBounds t → (calls : List Call) → Kept t (run t calls .port) (run t calls .log)
+pub run-demand : (t : Table) → HasBounds t → (calls : List Call) → DemandKept t (run t calls .port) (run t calls .log)
 unfolding run
 run-demand t b [] = fresh-demand t b
 run-demand t b (c ∷ calls) =

@@ -70,11 +70,11 @@ module _ (t : Table) (clock : ℕ) (g : Gate) (k : FitGate t clock g) (time : �
   gate-reduced line i = gate-account line i (reduced (t .links) g i time) (le-refl time) (omega arith)
 
 -- ---- a report
-record Whole (t : Table) (s : Port) : Type 0 where
+record InOrder (t : Table) (s : Port) : Type 0 where
   ordered : Ordered t s
   gate : FitGate t (s .scheduler .clock) (s .gate)
 
-fit-whole : (t : Table) (s : Port) → FitPort t s → length (s .scheduler .queues) ≡ 8 → length (s .marks) ≡ 8 → Whole t s
+fit-whole : (t : Table) (s : Port) → FitPort t s → length (s .scheduler .queues) ≡ 8 → length (s .marks) ≡ 8 → InOrder t s
 fit-whole t s k eight marks =
     record {
       ordered = record { sound = fit-sound t s k eight; lined = λ q. go q (decLe 8 q); early = k .early; eight = marks; below = k .below; within = k .within };
@@ -85,7 +85,7 @@ fit-whole t s k eight marks =
     go q (yes l) = rw (List·getD-eq-default (s .scheduler .queues) [] {n = q} (omega arith)) over
     go q (no l) = k .lined q (omega arith)
 
-module _ (t : Table) (v : Valid t) (s : Port) (k : Whole t s) where
+module _ (t : Table) (v : Valid t) (s : Port) (k : InOrder t s) where
   module _ (time : ℕ) (timely : Timely s time) where
     there : advance time (s .scheduler) .scheduler .clock ≡ time
     there = advance-clock time (s .scheduler) (timely .from)
@@ -93,7 +93,7 @@ module _ (t : Table) (v : Valid t) (s : Port) (k : Whole t s) where
     moved : Ordered t (movedTo s time)
     moved = moved-ordered t s time timely (k .ordered)
 
-    judged-whole : (line number len : ℕ) → Arrives t s time line len → {j : Judged} → Judgement t (reached s time line) time line number len j → Whole t (j .port)
+    judged-whole : (line number len : ℕ) → Arrives t s time line len → {j : Judged} → Judgement t (reached s time line) time line number len j → InOrder t (j .port)
     unfolding storedIf
     judged-whole line number len arrives filters =
         record { ordered = regated t (movedTo s time) moved (reached s time line .gate); gate = rw there (gate-line t (s .scheduler .clock) (s .gate) (k .gate) time (timely .from) line) }
@@ -113,7 +113,7 @@ module _ (t : Table) (v : Valid t) (s : Port) (k : Whole t s) where
           gate = rw there (gate-reduced t (s .scheduler .clock) (s .gate) (k .gate) time (timely .from) line i);
         }
 
-  step-whole : (list : List ℕ) {r : Report} {x : Stepped} → Stepping t s list r x → Whole t (x .port)
+  step-whole : (list : List ℕ) {r : Report} {x : Stepped} → Stepping t s list r x → InOrder t (x .port)
   step-whole list (refuses n) = k
   step-whole list (waits time timely) =
       record { ordered = moved time timely; gate = rw (there time timely) (gate-later t (s .scheduler .clock) (s .gate) (k .gate) time (timely .from)) }
@@ -123,7 +123,7 @@ pub fitness-kept : FitnessKept
 unfolding fit
 fitness-kept t s c queues marks e =
     let passes : tableRefusal t ≡ 0 = eqb-true (tableRefusal t) 0 (all-true _ e .0) in
-    let w : Whole t (step t s c .port) = step-whole t (valid t passes) s (fit-whole t s (fit-is t s e) queues marks) (c .list) (stepping t s (c .list) (c .report)) in
+    let w : InOrder t (step t s c .port) = step-whole t (valid t passes) s (fit-whole t s (fit-is t s e) queues marks) (c .list) (stepping t s (c .list) (c .report)) in
     (ordered-fit t passes (step t s c .port) (w .ordered) (w .gate), w .ordered .sound .eight, w .ordered .eight)
 
 -- ---- the number of marks, line ticks and accounts

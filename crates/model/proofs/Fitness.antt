@@ -24,7 +24,7 @@ use Rattle.model.proofs.Curves.{occupied-weight}
 use Rattle.model.proofs.TokenBucket.{credit-top}
 use Rattle.model.proofs.Gate.{Good}
 use Rattle.model.proofs.ValidTable.{Valid, valid}
-use Rattle.model.proofs.BusyPeriod.{Sends, Meets, Sound}
+use Rattle.model.proofs.BusyPeriod.{SendsInTime, Meets, Sound}
 use Rattle.model.proofs.FramesFreed.{ticks-count}
 use Rattle.model.proofs.Refusals.{refusal-apart}
 use Rattle.model.proofs.Lined.{Lined, lined-fit, fit-lined, lined-count, lined-meets}
@@ -32,8 +32,8 @@ use Rattle.model.proofs.Log.{passedFrames}
 use Rattle.model.proofs.Invariant.{Ordered, Invariant, run-kept}
 
 -- ---- what is kept is fit
-sends-fit : (clock : ℕ) (queues : List (List Frame)) → length queues ≡ 8 → (z : Sender) → Sends clock queues z → senderFit clock queues z ≡ true
-unfolding Sends senderFit
+sends-fit : (clock : ℕ) (queues : List (List Frame)) → length queues ≡ 8 → (z : Sender) → SendsInTime clock queues z → senderFit clock queues z ≡ true
+unfolding SendsInTime senderFit
 sends-fit clock queues n idle m = refl
 sends-fit clock queues n (sending q s) m =
     true-all _ (
@@ -173,8 +173,8 @@ fit-is t s e =
       sender = all .1 .1 .1 .1 .1 .1 .1 .1 .1 .0;
     }
 
-fit-sends : (clock : ℕ) (queues : List (List Frame)) → length queues ≡ 8 → (z : Sender) → senderFit clock queues z ≡ true → Sends clock queues z
-unfolding Sends senderFit
+fit-sends : (clock : ℕ) (queues : List (List Frame)) → length queues ≡ 8 → (z : Sender) → senderFit clock queues z ≡ true → SendsInTime clock queues z
+unfolding SendsInTime senderFit
 fit-sends clock queues n idle e = tt
 fit-sends clock queues n (sending q s) e =
     let all = all-true _ e in (

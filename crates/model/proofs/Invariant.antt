@@ -28,7 +28,7 @@ use Rattle.model.proofs.Curves.{greatest-ge}
 use Rattle.model.proofs.Passed.{Passed}
 use Rattle.model.proofs.Gate.{mem-at, renewed, reduced, Good, later-good, raise-good, police-good, pass-good, fresh-good}
 use Rattle.model.proofs.ValidTable.{Valid}
-use Rattle.model.proofs.BusyPeriod.{Sends, Meets, Sound, put-bytes}
+use Rattle.model.proofs.BusyPeriod.{SendsInTime, Meets, Sound, put-bytes}
 use Rattle.model.proofs.BusySteps.{stored-sound}
 use Rattle.model.proofs.QueueSteps.{advance-keeps, advance-sound, advance-clock, held-tail}
 use Rattle.model.proofs.Stepping.{Admitted, policedPort, chargedPort, priorityAt, Judgement, filters, polices, drops, stores, Timely, Arrives, movedTo, reached, freedBy, Stepping, refuses, waits, frames, stepping}
@@ -218,7 +218,7 @@ no-marks (suc n) zero = refl
 no-marks (suc n) (suc p) = no-marks n p
 
 pub fresh-kept : (t : Table) → Invariant t (fresh t) []
-unfolding fresh Sends bytes passedFrames
+unfolding fresh SendsInTime bytes passedFrames
 fresh-kept t =
     record {
       ordered =

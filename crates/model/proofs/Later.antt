@@ -29,10 +29,10 @@ use Rattle.model.proofs.Stepping.{Admitted, Judgement, filters, polices
 use Rattle.model.proofs.Log.{entryOf, taken, declined, departures-taken, departures-declined, frame-declined, passedFrames}
 use Rattle.model.proofs.Invariant.{Invariant, run-kept}
 use Rattle.model.proofs.Levels.{upPassed, ownPassed, Leveled, tick-leveled}
-use Rattle.model.proofs.Demand.{ticks-none, ticks-same, ticks-other, Kept, run-demand}
+use Rattle.model.proofs.Demand.{ticks-none, ticks-same, ticks-other, DemandKept, run-demand}
 
 -- ---- each departure in time
-module _ (t : Table) (b : HasBounds t) (s : Port) (log : List Entry) (k : Kept t s log) where
+module _ (t : Table) (b : HasBounds t) (s : Port) (log : List Entry) (k : DemandKept t s log) where
   advance-leaving : (time : ℕ) → Leaving t (heldFrames log) (freedBy s time)
   unfolding advance
   advance-leaving time =
