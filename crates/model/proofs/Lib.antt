@@ -38,5 +38,6 @@ pub mod Levels
 pub mod Demand
 pub mod Later
 pub mod Examples
+pub mod WordExamples
 pub mod ClimbedExamples
 pub mod Theorems
