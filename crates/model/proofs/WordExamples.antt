@@ -4,7 +4,7 @@ use mathlib.Core.List.{List, [], _∷_, map, reverse, reverse-reverse}
 use Prim.Native.Nat.{ℕ, zero, suc, _+_, _*_, _≤_, _<_}
 use native.Mathlib.Omega.{arith}
 use lib.Dec.{lit≤}
-use lib.ListN.{length, getD}
+use lib.ListN.{getD}
 use Rattle.model.specs.Basics.{Each, done, also, further}
 use Rattle.model.specs.Units.{occupied}
 use Rattle.model.specs.Link.{bagOf, placeOf}
