@@ -2,7 +2,6 @@
 use mathlib.Core.Path.{_≡_, refl, sym, ap}
 use mathlib.Core.Logic.{_⊎_, inl, inr}
 use mathlib.Core.Bool.{Bool, true, false}
-use mathlib.Core.Option.{none}
 use mathlib.Core.List.{List, [], _∷_, _++_}
 use Prim.Native.Nat.{ℕ, suc, _+_, _-_, _≤_, _<_, min}
 use native.Mathlib.Nat.{le-refl, lt-of-not-le}
@@ -10,7 +9,7 @@ use native.Mathlib.Decide.{decLe, ℕ-discrete}
 use native.Mathlib.Omega.{arith}
 use lib.Dec.{eqb, leb}
 use borrow.Author.Tests.{eq-eqb, ne-eqb, eqb-true, eqb-false, le-leb, lt-leb}
-use lib.ListN.{length, getD, drop, set, length-set}
+use lib.ListN.{length, drop, set, length-set}
 use lib.Seq.{getD-set-same, getD-set-other}
 use Rattle.model.specs.Basics.{provided, Each}
 use Rattle.model.specs.Units.{occupied}
@@ -27,9 +26,9 @@ pub record Under (c : ℕ) (qs : List (List Frame)) (q t : ℕ) : Type 0 where
   pub ends : c < t + headOf qs q .length
   pub arrived : headOf qs q .arrival ≤ t
 
-unfoldable pub Sends : ℕ → List (List Frame) → Sender → Type 0
-Sends c qs idle = Unit
-Sends c qs (sending q t) = (t < c) × Under c qs q t
+unfoldable pub SendsInTime : ℕ → List (List Frame) → Sender → Type 0
+SendsInTime c qs idle = Unit
+SendsInTime c qs (sending q t) = (t < c) × Under c qs q t
 
 -- a frame of queue q: no longer than limit q
 pub record Meets (limit c : ℕ) (f : Frame) : Type 0 where
@@ -40,7 +39,7 @@ pub record Meets (limit c : ℕ) (f : Frame) : Type 0 where
 pub record Sound (limit : ℕ → ℕ) (st : Scheduler) : Type 0 where
   pub eight : length (st .queues) ≡ 8
   pub frames : (q : ℕ) → Each (Meets (limit q) (st .clock)) (queueOf (st .queues) q)
-  pub sends : Sends (st .clock) (st .queues) (st .sender)
+  pub sends : SendsInTime (st .clock) (st .queues) (st .sender)
 
 -- ---- the level
 -- bytes of the frame being sent that have left, if it is of the level

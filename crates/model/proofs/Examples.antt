@@ -16,9 +16,11 @@ use Rattle.model.specs.Bounds.{ofPriority, upTo, beyond, ownArrivals, up
 use Rattle.model.specs.TableFile.{tableBytes}
 use Rattle.model.specs.Sheet.{text, sheet}
 use Rattle.model.specs.Machine.{highestWaiting, startIfAny, started, freedIf, byteLeaves, tick, ticks, advance, bytes, framesHeld}
-use Rattle.model.specs.Report.{fresh, namesLink, framesFit, senderFit, fit, tickOf, frameChecks, reportChecks, reportRefusal, admits, admitted, replenished, charged, hasRoom, storedIf, passedIf, judge, judgeReport, bytesFreed, acceptedOr, step}
+use Rattle.model.specs.Port.{fresh}
+use Rattle.model.specs.Fitness.{namesLink, framesFit, senderFit, fit}
+use Rattle.model.specs.Report.{tickOf, frameChecks, reportChecks, allChecks, reportRefusal, admits, admitted, replenished, charged, checkedIf, police, policeAt, hasRoom, storedIf, store, passedIf, judge, judgeReport, bytesFreed, acceptedOr, step}
 use Rattle.model.specs.Run.{run}
-use Rattle.model.specs.Examples.{Outcome, Example, gives-bound, gives-hold, lacks-bounds, gives-answers, gives-bags, gives-sheet, outcomes, Correct}
+use Rattle.model.specs.Examples.{Outcome, Example, gives-bound, gives-hold, lacks-bounds, gives-answers, gives-held, gives-fates, keeps, breaks, gives-bags, gives-sheet, outcomes, Correct}
 use Rattle.model.specs.Examples as example
 
 -- ---- the common theorem: an example whose test computes to true is correct
@@ -51,6 +53,11 @@ computes (lacks-bounds t n) = eqb (boundsRefusal t) n
 computes (gives-answers t calls expected) = sameOutcomes (outcomes t calls) expected
 computes (gives-bags bags) = sameNumbers (eight bagOf) bags
 computes (gives-sheet t printed) = sameNumbers (sheet (tableBytes t)) (text printed)
+-- the words of demand 3 are shown from the answers, in WordExamples
+computes (gives-held t calls p expected) = false
+computes (gives-fates t calls n expected) = false
+computes (keeps t calls i) = false
+computes (breaks t calls i) = false
 
 numbers-equal : (xs ys : List ℕ) → sameNumbers xs ys ≡ true → xs ≡ ys
 unfolding sameNumbers
@@ -88,10 +95,14 @@ settled (lacks-bounds t n) e = eqb-true (boundsRefusal t) n e
 settled (gives-answers t calls expected) e = outcomes-equal (outcomes t calls) expected e
 settled (gives-bags bags) e = numbers-equal (eight bagOf) bags e
 settled (gives-sheet t printed) e = numbers-equal (sheet (tableBytes t)) (text printed) e
+settled (gives-held t calls p expected) e = absurd (let z : _≡_ {A = ℕ} 0 1 = cc in omega arith)
+settled (gives-fates t calls n expected) e = absurd (let z : _≡_ {A = ℕ} 0 1 = cc in omega arith)
+settled (keeps t calls i) e = absurd (let z : _≡_ {A = ℕ} 0 1 = cc in omega arith)
+settled (breaks t calls i) e = absurd (let z : _≡_ {A = ℕ} 0 1 = cc in omega arith)
 
 -- names for all that an example computes with
 the-port : ℕ
-unfolding computes sameOutcomes sameOutcome sameNumbers outcomes run step acceptedOr judgeReport judge passedIf storedIf hasRoom charged replenished admitted admits reportRefusal reportChecks frameChecks tickOf fit senderFit framesFit namesLink fresh bytesFreed advance ticks tick byteLeaves freedIf started startIfAny highestWaiting bytes framesHeld placeOf bagOf further firstMet allHold allTo tableRefusal tableChecks allAtMost linksChecks notAbove fieldsInRange countsInRange occupied flatMap
+unfolding computes sameOutcomes sameOutcome sameNumbers outcomes run step acceptedOr judgeReport judge policeAt police checkedIf passedIf store storedIf hasRoom charged replenished admitted admits reportRefusal allChecks reportChecks frameChecks tickOf fit senderFit framesFit namesLink fresh bytesFreed advance ticks tick byteLeaves freedIf started startIfAny highestWaiting bytes framesHeld placeOf bagOf further firstMet allHold allTo tableRefusal tableChecks allAtMost linksChecks notAbove fieldsInRange countsInRange occupied flatMap
 the-port = 0
 
 the-formulas : ℕ
@@ -145,6 +156,14 @@ s = settled example.s refl
 pub u : Correct example.u
 unfolding the-port
 u = settled example.u refl
+
+pub v : Correct example.v
+unfolding the-port
+v = settled example.v refl
+
+pub w : Correct example.w
+unfolding the-port
+w = settled example.w refl
 
 pub a : Correct example.a
 unfolding the-formulas
