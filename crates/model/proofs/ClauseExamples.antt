@@ -1,4 +1,4 @@
--- The words of demand 3 on the examples' lists of calls. They go by the reports and their answers, so the answers shown give the log.
+-- The words of the clauses of demand 3 on the examples' lists of calls. They go by the reports and their answers, so the answers shown give the log.
 use mathlib.Core.Path.{_≡_, refl, sym, ap, _∙_}
 use mathlib.Core.List.{List, [], _∷_, map, reverse, reverse-reverse}
 use Prim.Native.Nat.{ℕ, zero, suc, _+_, _≤_, _<_}
@@ -16,13 +16,13 @@ use Rattle.model.specs.Examples as example
 use Rattle.model.proofs.Examples as shown
 
 -- ---- the log of calls whose outcomes are known
-abbrev entryOf : Call → Outcome → Entry
-entryOf c o = record { report = c .report; answer = o .answer; list = o .list }
+abbrev entryWith : Call → Outcome → Entry
+entryWith c o = record { report = c .report; answer = o .answer; list = o .list }
 
 unfoldable logged : List Call → List Outcome → List Entry
 logged [] outcomes = []
 logged (c ∷ calls) [] = []
-logged (c ∷ calls) (o ∷ outcomes) = entryOf c o ∷ logged calls outcomes
+logged (c ∷ calls) (o ∷ outcomes) = entryWith c o ∷ logged calls outcomes
 
 run-logged : (t : Table) (calls : List Call) → run t calls .log ≡ logged calls (map outcomeOf (run t calls .log))
 unfolding run logged
