@@ -34,8 +34,8 @@ sameNumbers (a ∷ xs) (b ∷ ys) = eqb a b && sameNumbers xs ys
 abbrev pub numbersOf : Outcome → List ℕ
 numbersOf a = a .answer .refused ∷ a .answer .verdict ∷ a .answer .frames ∷ a .answer .bytes ∷ a .list
 
-abbrev outcomeOf : List ℕ → Outcome
-outcomeOf l = record { answer = record { refused = getD l 0 0; verdict = getD l 1 0; frames = getD l 2 0; bytes = getD l 3 0 }; list = drop 4 l }
+abbrev outcomeFrom : List ℕ → Outcome
+outcomeFrom l = record { answer = record { refused = getD l 0 0; verdict = getD l 1 0; frames = getD l 2 0; bytes = getD l 3 0 }; list = drop 4 l }
 
 unfoldable pub sameOutcome : Outcome → Outcome → Bool
 sameOutcome a b = sameNumbers (numbersOf a) (numbersOf b)
@@ -53,7 +53,7 @@ computes (lacks-bounds t n) = eqb (boundsRefusal t) n
 computes (gives-answers t calls expected) = sameOutcomes (outcomes t calls) expected
 computes (gives-bags bags) = sameNumbers (eight bagOf) bags
 computes (gives-sheet t printed) = sameNumbers (sheet (tableBytes t)) (text printed)
--- the words of demand 3 are shown from the answers, in WordExamples
+-- the words of demand 3 are shown from the answers, in ClauseExamples
 computes (gives-held t calls p expected) = false
 computes (gives-fates t calls n expected) = false
 computes (keeps t calls i) = false
@@ -72,7 +72,7 @@ numbers-equal (x ∷ xs) (y ∷ ys) e =
 
 outcome-equal : (a b : Outcome) → sameOutcome a b ≡ true → a ≡ b
 unfolding sameOutcome
-outcome-equal a b e = ap outcomeOf (numbers-equal (numbersOf a) (numbersOf b) e)
+outcome-equal a b e = ap outcomeFrom (numbers-equal (numbersOf a) (numbersOf b) e)
 
 outcomes-equal : (xs ys : List Outcome) → sameOutcomes xs ys ≡ true → xs ≡ ys
 unfolding sameOutcomes

@@ -47,6 +47,6 @@ pub mod Demand
 pub mod Later
 -- ---- the examples, and all theorems under their names
 pub mod Examples
-pub mod WordExamples
+pub mod ClauseExamples
 pub mod ClimbedExamples
 pub mod Theorems

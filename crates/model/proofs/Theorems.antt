@@ -12,7 +12,7 @@ use Rattle.model.proofs.FitKept as FitKept
 use Rattle.model.proofs.Demand as Demand
 use Rattle.model.proofs.Later as Later
 use Rattle.model.proofs.Examples as shown
-use Rattle.model.proofs.WordExamples as told
+use Rattle.model.proofs.ClauseExamples as told
 use Rattle.model.proofs.ClimbedExamples as climbed
 
 pub reads-written : ReadsWritten

@@ -201,9 +201,12 @@ l =
     1 1_199 2_600
 
 -- m. size 500: the third of three frames of 200 is dropped while the first is leaving. n. Its link, charged for it, is then policed
+abbrev pub tableN : Table
+tableN = threeLines (500 ∷ [])
+
 abbrev pub m : Example
 m =
-    gives-answers (threeLines (500 ∷ [])) (lent (frame 1_000 0 0 200) ∷ lent (frame 1_100 1 1 200) ∷ lent (frame 1_150 2 2 200) ∷ [])
+    gives-answers tableN (lent (frame 1_000 0 0 200) ∷ lent (frame 1_100 1 1 200) ∷ lent (frame 1_150 2 2 200) ∷ [])
     (gives 0 0 0 [] ∷ gives 0 0 0 [] ∷ gives 3 0 0 [] ∷ [])
 
 abbrev pub callsN : List Call
@@ -211,7 +214,7 @@ callsN = lent (frame 1_000 0 0 200) ∷ lent (frame 1_100 1 1 200) ∷ lent (fra
 
 abbrev pub n : Example
 n =
-    gives-answers (threeLines (500 ∷ [])) callsN
+    gives-answers tableN callsN
     (gives 0 0 0 [] ∷ gives 0 0 0 [] ∷ gives 3 0 0 [] ∷ gives 2 2 400 (0 ∷ 200 ∷ 1_200 ∷ 1 ∷ 200 ∷ 1_400 ∷ []) ∷ [])
 
 -- o. link 1 stored at 1,001, policed at 13,500 and not charged for it, so stored at 14,000
@@ -305,7 +308,7 @@ heldR1 = gives-held tableE callsR 1 (holds (arrived 2 1_000 1_000 ∷ []) 1_000 
 -- n: the dropped frame is not held
 abbrev pub heldN0 : Example
 heldN0 =
-    gives-held (threeLines (500 ∷ [])) callsN 0
+    gives-held tableN callsN 0
     (holds (arrived 0 200 1_000 ∷ []) 200
     ∷ holds (arrived 0 200 1_000 ∷ arrived 1 200 1_100 ∷ []) 400
     ∷ holds (arrived 0 200 1_000 ∷ arrived 1 200 1_100 ∷ []) 400
@@ -327,7 +330,7 @@ fatesF = gives-fates tableE callsF 1 (record { stored = 1_001 ∷ 13_501 ∷ [];
 
 -- n: link 2's first frame is dropped, so it passed; its second is policed
 abbrev pub fatesN : Example
-fatesN = gives-fates (threeLines (500 ∷ [])) callsN 2 (record { stored = []; policed = 2_000 ∷ []; dropped = 1_150 ∷ []; passed = 1_150 ∷ []; through = 1_150 ∷ 2_000 ∷ [] })
+fatesN = gives-fates tableN callsN 2 (record { stored = []; policed = 2_000 ∷ []; dropped = 1_150 ∷ []; passed = 1_150 ∷ []; through = 1_150 ∷ 2_000 ∷ [] })
 
 -- p: link 1's frame is refused. q: three are filtered, the fourth is stored
 abbrev pub fatesP : Example

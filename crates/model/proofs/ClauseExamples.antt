@@ -1,4 +1,4 @@
--- The words of demand 3 on the examples' lists of calls. They go by the reports and their answers, so the answers shown give the log.
+-- The words of the clauses of demand 3 on the examples' lists of calls. They go by the reports and their answers, so the answers shown give the log.
 use mathlib.Core.Path.{_≡_, refl, sym, ap, _∙_}
 use mathlib.Core.List.{List, [], _∷_, map, reverse, reverse-reverse}
 use Prim.Native.Nat.{ℕ, zero, suc, _+_, _≤_, _<_}
@@ -11,18 +11,18 @@ use Rattle.model.specs.Table.{Table}
 use Rattle.model.specs.Machine.{bytes}
 use Rattle.model.specs.Report.{Call}
 use Rattle.model.specs.Run.{Entry, run, accepted, frameIf, storedBy, policedBy, droppedBy, passedBy, throughBy, departuresIn, departuresBy, without, withoutAll, andLast, heldFrames, isPriority, hasPriority, only, heldOf, mostHeld, andTick, ticksOf, KeepBagAndJitter}
-use Rattle.model.specs.Examples.{Outcome, Holding, Fates, logOf, outcomeOf, outcomes, holdings, fates, Correct}
+use Rattle.model.specs.Examples.{Outcome, Holding, Fates, logOf, outcomeOf, outcomes, holdings, fates, Correct, tableE, callsD, callsE, callsF, tableN, callsN, callsP, tableQ, callsQ, callsR, tableV, callsV, callsW}
 use Rattle.model.specs.Examples as example
 use Rattle.model.proofs.Examples as shown
 
 -- ---- the log of calls whose outcomes are known
-abbrev entryOf : Call → Outcome → Entry
-entryOf c o = record { report = c .report; answer = o .answer; list = o .list }
+abbrev entryWith : Call → Outcome → Entry
+entryWith c o = record { report = c .report; answer = o .answer; list = o .list }
 
 unfoldable logged : List Call → List Outcome → List Entry
 logged [] outcomes = []
 logged (c ∷ calls) [] = []
-logged (c ∷ calls) (o ∷ outcomes) = entryOf c o ∷ logged calls outcomes
+logged (c ∷ calls) (o ∷ outcomes) = entryWith c o ∷ logged calls outcomes
 
 run-logged : (t : Table) (calls : List Call) → run t calls .log ≡ logged calls (map outcomeOf (run t calls .log))
 unfolding run logged
@@ -40,11 +40,11 @@ module _ (t : Table) (calls : List Call) {expected : List Outcome} (e : outcomes
   abbrev known : List Entry
   known = logged (reverse calls) (reverse expected)
 
-  held-is : (p : ℕ) {holds : List Holding} → holdings t p known ≡ holds → holdings t p (logOf t calls) ≡ holds
-  held-is p h = rw (log-is t calls expected e) h
+  holding : (p : ℕ) {holds : List Holding} → holdings t p known ≡ holds → holdings t p (logOf t calls) ≡ holds
+  holding p h = rw (log-is t calls expected e) h
 
-  fates-are : (n : ℕ) {f : Fates} → fates n known ≡ f → fates n (logOf t calls) ≡ f
-  fates-are n h = rw (log-is t calls expected e) h
+  befalling : (n : ℕ) {f : Fates} → fates n known ≡ f → fates n (logOf t calls) ≡ f
+  befalling n h = rw (log-is t calls expected e) h
 
 -- names for all that a word computes with
 the-words : ℕ
@@ -53,51 +53,51 @@ the-words = 0
 
 pub heldD0 : Correct example.heldD0
 unfolding the-words
-heldD0 = held-is example.tableE example.callsD shown.d 0 refl
+heldD0 = holding tableE callsD shown.d 0 refl
 
 pub heldD1 : Correct example.heldD1
 unfolding the-words
-heldD1 = held-is example.tableE example.callsD shown.d 1 refl
+heldD1 = holding tableE callsD shown.d 1 refl
 
 pub heldR1 : Correct example.heldR1
 unfolding the-words
-heldR1 = held-is example.tableE example.callsR shown.r 1 refl
+heldR1 = holding tableE callsR shown.r 1 refl
 
 pub heldN0 : Correct example.heldN0
 unfolding the-words
-heldN0 = held-is (example.threeLines (500 ∷ [])) example.callsN shown.n 0 refl
+heldN0 = holding tableN callsN shown.n 0 refl
 
 pub heldV0 : Correct example.heldV0
 unfolding the-words
-heldV0 = held-is example.tableV example.callsV shown.v 0 refl
+heldV0 = holding tableV callsV shown.v 0 refl
 
 pub fatesE : Correct example.fatesE
 unfolding the-words
-fatesE = fates-are example.tableE example.callsE shown.e 1 refl
+fatesE = befalling tableE callsE shown.e 1 refl
 
 pub fatesF : Correct example.fatesF
 unfolding the-words
-fatesF = fates-are example.tableE example.callsF shown.f 1 refl
+fatesF = befalling tableE callsF shown.f 1 refl
 
 pub fatesN : Correct example.fatesN
 unfolding the-words
-fatesN = fates-are (example.threeLines (500 ∷ [])) example.callsN shown.n 2 refl
+fatesN = befalling tableN callsN shown.n 2 refl
 
 pub fatesP : Correct example.fatesP
 unfolding the-words
-fatesP = fates-are example.tableE example.callsP shown.p 1 refl
+fatesP = befalling tableE callsP shown.p 1 refl
 
 pub fatesQ : Correct example.fatesQ
 unfolding the-words
-fatesQ = fates-are example.tableQ example.callsQ shown.q 1 refl
+fatesQ = befalling tableQ callsQ shown.q 1 refl
 
 pub fatesV : Correct example.fatesV
 unfolding the-words
-fatesV = fates-are example.tableV example.callsV shown.v 1 refl
+fatesV = befalling tableV callsV shown.v 1 refl
 
 pub fatesW : Correct example.fatesW
 unfolding the-words
-fatesW = fates-are example.tableV example.callsW shown.w 1 refl
+fatesW = befalling tableV callsW shown.w 1 refl
 
 -- ---- BAG and jitter
 
