@@ -14,6 +14,7 @@ use lib.Seq.{getD-set-same, getD-set-other, take-all}
 use Rattle.model.specs.Basics.{provided, sumTo}
 use Rattle.model.specs.Link.{VirtualLink, linkAt, sumOver, greatestOver}
 use Rattle.model.specs.Arrival.{frameCurve, onLine, lineCurve, arrivalCurve}
+use Rattle.model.proofs.Bags.{bag-least}
 use Rattle.table.specs.declared.Table.{Table as TableRecord}
 use Rattle.table.specs.View.{viewLink, blankFields, viewLinks}
 use Rattle.table.proofs.Shape.{count-shown}
@@ -21,7 +22,7 @@ use Rattle.bounds_arrivals.specs.declared.Loads.{Loads}
 use Rattle.bounds_arrivals.specs.Fit.{Fit}
 use Rattle.bounds_arrivals.specs.Loads.{within, between, less, lineSum, lineTop, Loaded, flow}
 use Rattle.bounds_arrivals.proofs.Sums.{sumTo-eq, sum-more, greatest-more, line-is}
-use Rattle.bounds_arrivals.proofs.Fitting.{bag-fits, div-few, product-few, provided-few, view-count, view-link}
+use Rattle.bounds_arrivals.proofs.Fitting.{div-few, product-few, provided-few, view-count, view-link}
 
 provided-mul : (b : Bool) (x n : ℕ) → provided b (x * n) ≡ provided b x * n
 unfolding provided
@@ -144,7 +145,7 @@ whole t = take-all (t .count) (viewLinks t) (omega (arith, count-shown t))
 link-few : (v : VirtualLink) (cut w : ℕ) → v .greatest ≤ 1_538 → v .jitter ≤ 125_000 → w ≤ 65_536 → less cut (v .greatest) * frameCurve v w ≤ 24_608
 unfolding frameCurve
 link-few v cut w g j h =
-    product-few (less cut (v .greatest)) (1 + (w + v .jitter) / _) (omega arith) (omega (arith, div-few (w + v .jitter) _ (bag-fits (v .code) .least) (omega arith)))
+    product-few (less cut (v .greatest)) (1 + (w + v .jitter) / _) (omega arith) (omega (arith, div-few (w + v .jitter) _ (bag-least (v .code)) (omega arith)))
 
 module _ (t : TableRecord) (f : Fit t) (s : VirtualLink → Bool) (cut w : ℕ) (small : w ≤ 65_536) where
   -- how large the sums can be

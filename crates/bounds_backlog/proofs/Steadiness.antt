@@ -14,7 +14,8 @@ use lib.Seq.{take-all}
 use Rattle.model.specs.Basics.{provided}
 use Rattle.model.specs.Link.{VirtualLink, bagOf, bag, linkAt, sumOver}
 use Rattle.model.specs.Arrival.{frameCurve, onLine}
-use Rattle.model.proofs.Curves.{bag-positive, frameCurve-mono}
+use Rattle.model.proofs.Bags.{bag-positive}
+use Rattle.model.proofs.Curves.{frameCurve-mono}
 use Rattle.table.specs.declared.VirtualLink.{VirtualLink as LinkFields}
 use Rattle.table.specs.declared.Table.{Table as TableRecord}
 use Rattle.table.specs.View.{viewLink, blankFields, viewLinks}

@@ -3,6 +3,7 @@ pub mod Lists
 pub mod Entries
 pub mod Bytes
 pub mod Checks
+pub mod Bags
 pub mod TableFacts
 pub mod FileRead
 pub mod FileWrite
