@@ -78,7 +78,7 @@ module _ (t : Table) where
   pub table-refused : (n : ℕ) → n ≡ tableRefusal t → n ≢ 0 → (r : Bounds) → r ≡ record { refused = n; bounds = replicate 8 0; holds = replicate 8 0 } → r ≡ recordBounds (sizing t)
   unfolding boundsRefusal tableRefusal
   table-refused n e z r q =
-      q ∙ refused-is n z (first-append 8 (tableChecks t) _ (table-numbered 8 (omega arith) t) ∙ rw (← e) (first-of n _ z))
+      q ∙ refused-is n z (first-append (tableChecks t) _ (table-numbered t) ∙ rw (← e) (first-of n _ z))
 
   module _ (e : tableRefusal t ≡ 0) where
     -- 8

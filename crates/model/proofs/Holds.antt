@@ -89,8 +89,8 @@ has-bounds t e =
 
     pass : NoneMet (tableChecks t ++ (check 8 (not (allTo (λ p. isThere (holdOf t p)) 8)) ∷ []))
     pass =
-        none-met 8 (tableChecks t ++ (check 8 (not (allTo (λ p. isThere (holdOf t p)) 8)) ∷ []))
-        (numbered-append 8 (tableChecks t) (check 8 (not (allTo (λ p. isThere (holdOf t p)) 8)) ∷ []) (table-numbered 8 (omega arith) t) (omega arith)) e
+        none-met (tableChecks t ++ (check 8 (not (allTo (λ p. isThere (holdOf t p)) 8)) ∷ []))
+        (numbered-append (tableChecks t) (check 8 (not (allTo (λ p. isThere (holdOf t p)) 8)) ∷ []) (table-numbered t) (omega arith)) e
 
 -- ---- the refusal from the holds
 not-all : (test : ℕ → Bool) (n k : ℕ) → k < n → test k ≡ false → allTo test n ≡ false
@@ -103,7 +103,7 @@ not-all test n k l e = go (allTo test n) refl
 module _ (t : Table) (passes : tableRefusal t ≡ 0) where
   past-table : boundsRefusal t ≡ firstMet (check 8 (not (allTo (λ p. isThere (holdOf t p)) 8)) ∷ [])
   unfolding boundsRefusal tableRefusal
-  past-table = first-past (tableChecks t) _ (none-met 6 (tableChecks t) (table-numbered 6 (omega arith) t) passes)
+  past-table = first-past (tableChecks t) _ (none-met (tableChecks t) (table-numbered t) passes)
 
   pub no-hold : (p : ℕ) → p < 8 → holdOf t p ≡ none → boundsRefusal t ≡ 8
   unfolding firstMet isThere

@@ -151,7 +151,7 @@ module _ (t : Table) (s : Port) (list : List ℕ) where
       })
       (judgement t (withLineTick (movedTo s time) line time) time line number len)
 
-  numbered : (r : Report) → Numbered 16 (reportChecks t s r ++ (roomCheck s (length list) ∷ []))
+  numbered : (r : Report) → Numbered (reportChecks t s r ++ (roomCheck s (length list) ∷ []))
   unfolding reportChecks frameChecks
   numbered (wait time) = omega arith
   numbered (frame time line number len) = omega arith
@@ -161,5 +161,5 @@ module _ (t : Table) (s : Port) (list : List ℕ) where
   stepping r = go (reportRefusal t s r (length list)) refl
     where
       go : (n : ℕ) → reportRefusal t s r (length list) ≡ n → Stepping t s list r (acceptedOr n t s (record { report = r; list = list }))
-      go zero e = accepting r (none-met 16 (reportChecks t s r ++ (roomCheck s (length list) ∷ [])) (numbered r) e)
+      go zero e = accepting r (none-met (reportChecks t s r ++ (roomCheck s (length list) ∷ [])) (numbered r) e)
       go (suc n) e = refuses n

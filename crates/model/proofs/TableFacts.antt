@@ -5,7 +5,7 @@ use mathlib.Core.Option.{Option, none, some}
 use mathlib.Core.List.{List, [], _∷_, _++_}
 use Prim.Native.Nat.{ℕ, zero, suc, _≤_, _<_}
 use native.Mathlib.Omega.{arith}
-use lib.Dec.{eqb, leb, ltb}
+use lib.Dec.{eqb, leb}
 use borrow.Author.Tests.{leb-true, ltb-true, eqb-true, not-false}
 use lib.ListN.{length, getD}
 use Rattle.model.specs.Link.{VirtualLink}
@@ -71,19 +71,18 @@ sizes-fit sizes pass =
 
 -- ---- the checks of a table
 
-module _ (most : ℕ) (h : 6 ≤ most) where
-  pub links-numbered : (lines : ℕ) (previous : Option ℕ) (links : List VirtualLink) → Numbered most (linksChecks lines previous links)
-  unfolding linksChecks
-  links-numbered lines previous [] = tt
-  links-numbered lines previous (v ∷ links) =
-      numbered-append most (linkChecks lines previous v) (linksChecks lines (some (v .number)) links) (omega arith) (links-numbered lines (some (v .number)) links)
+pub links-numbered : (lines : ℕ) (previous : Option ℕ) (links : List VirtualLink) → Numbered (linksChecks lines previous links)
+unfolding linksChecks
+links-numbered lines previous [] = tt
+links-numbered lines previous (v ∷ links) =
+    numbered-append (linkChecks lines previous v) (linksChecks lines (some (v .number)) links) (omega arith) (links-numbered lines (some (v .number)) links)
 
-  pub table-numbered : (t : Table) → Numbered most (tableChecks t)
-  unfolding tableChecks
-  table-numbered t =
-      let counts = countChecks (t .lines) (length (t .links)) in
-      let links = linksChecks (t .lines) none (t .links) in
-      numbered-append most (counts ++ links) (sizeChecks (t .sizes)) (numbered-append most counts links (omega arith) (links-numbered (t .lines) none (t .links))) (omega arith)
+pub table-numbered : (t : Table) → Numbered (tableChecks t)
+unfolding tableChecks
+table-numbered t =
+    let counts = countChecks (t .lines) (length (t .links)) in
+    let links = linksChecks (t .lines) none (t .links) in
+    numbered-append (counts ++ links) (sizeChecks (t .sizes)) (numbered-append counts links (omega arith) (links-numbered (t .lines) none (t .links))) (omega arith)
 
 -- the parts of a table that passes
 pub record Passes (t : Table) : Type 0 where
@@ -96,7 +95,7 @@ unfolding tableRefusal tableChecks
 passes t e =
     let counts = countChecks (t .lines) (length (t .links)) in
     let links = linksChecks (t .lines) none (t .links) in
-    let pass = none-met 6 (tableChecks t) (table-numbered 6 (omega arith) t) e in
+    let pass = none-met (tableChecks t) (table-numbered t) e in
     let front = none-front (counts ++ links) (sizeChecks (t .sizes)) pass in
     record { counts = none-front counts links front; links = none-back counts links front; sizes = none-back (counts ++ links) (sizeChecks (t .sizes)) pass }
 

@@ -55,17 +55,17 @@ pub record Accepted (p : PortRecord) (r : Report) (room : ℕ) : Type 0 where
   pub ready : Ready (p .queues) (p .sender) (p .clock) (tickOf r) room
 
 module _ (t : Table) (s : Port) (r : Report) (room : ℕ) where
-  numbered : Numbered 16 (reportChecks t s r ++ (roomCheck s room ∷ []))
+  numbered : Numbered (reportChecks t s r ++ (roomCheck s room ∷ []))
   unfolding reportChecks frameChecks
   numbered = go r
     where
-      go : (q : Report) → Numbered 16 (reportChecks t s q ++ (roomCheck s room ∷ []))
+      go : (q : Report) → Numbered (reportChecks t s q ++ (roomCheck s room ∷ []))
       go (wait time) = omega arith
       go (frame time line number len) = omega arith
 
   none-refuses : reportRefusal t s r room ≡ 0 → NoneMet (reportChecks t s r ++ (roomCheck s room ∷ []))
   unfolding reportRefusal
-  none-refuses e = none-met 16 (reportChecks t s r ++ (roomCheck s room ∷ [])) numbered e
+  none-refuses e = none-met (reportChecks t s r ++ (roomCheck s room ∷ [])) numbered e
 
 module _ (p : PortRecord) where
   module _ (r : Report) (room : ℕ) (e : reportRefusal (viewPortTable p) (viewPort p) r room ≡ 0) where

@@ -38,12 +38,12 @@ module _ (t : Table) (output : List ℕ) (r : ℕ) (e : r ≡ tableRefusal t) wh
   pub table-refused : (r ≡ 0 → ⊥) → Wrote t output output (record { refused = r; written = 0 })
   unfolding writeTable tableRefusal room
   table-refused z =
-      wrote-none t output r (stopped (firstMet (tableChecks t ++ room)) r t output (stops-in-front (tableChecks t) room (table-numbered 9 (omega arith) t) r e z) z)
+      wrote-none t output r (stopped (firstMet (tableChecks t ++ room)) r t output (stops-in-front (tableChecks t) room (table-numbered t) r e z) z)
 
   module _ (z : r ≡ 0) where
     passed : firstMet (tableChecks t ++ room) ≡ firstMet room
     unfolding tableRefusal
-    passed = goes-on-behind (tableChecks t) room (table-numbered 9 (omega arith) t) r e z
+    passed = goes-on-behind (tableChecks t) room (table-numbered t) r e z
 
     short : length output < fileLength t → 9 ≡ firstMet room
     unfolding room firstMet
@@ -79,7 +79,7 @@ module _ (t : Table) (output : List ℕ) (e : writeTable t output .refused ≡ 0
   unfolding writeTable
   none-refused =
       let last = check 9 (ltb (length output) (fileLength t)) ∷ [] in
-      none-met 9 (tableChecks t ++ last) (numbered-append 9 (tableChecks t) last (table-numbered 9 (omega arith) t) (omega arith)) (not-refused (firstMet (tableChecks t ++ last)) t output e)
+      none-met (tableChecks t ++ last) (numbered-append (tableChecks t) last (table-numbered t) (omega arith)) (not-refused (firstMet (tableChecks t ++ last)) t output e)
 
   pub not-refused-passes : tableRefusal t ≡ 0
   unfolding tableRefusal
