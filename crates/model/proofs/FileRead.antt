@@ -11,7 +11,7 @@ use Rattle.model.specs.Link.{VirtualLink}
 use Rattle.model.specs.Table.{Table, blankTable, linkChecks, linksChecks, tableRefusal}
 use Rattle.model.specs.TableFile.{numberAt, headerChecks, linkRead, sizesRead, countRecordChecks, linkRecordChecks, sizesRecordChecks, Reading, stopOr, readSizes, readLinks, readTable}
 use Rattle.model.proofs.Checks.{Numbered, numbered-append, first-append, NoneMet, none-append, none-front, none-back, none-met, first-none}
-use Rattle.model.proofs.TableFacts.{Passes, passes-refusal}
+use Rattle.model.proofs.TableFacts.{parts-unmet}
 
 -- ---- what stands in the bytes
 
@@ -174,17 +174,14 @@ links-pass lines (suc n) previous rest pass =
     let back = none-back (linkRecordChecks lines previous rest) (linkRecordsChecks lines n (some (v .number)) (drop 18 rest)) pass in
     none-append (linkChecks lines previous v) (linksChecks lines (some (v .number)) (linksIn n (drop 18 rest))) (front .1 .1 .1 .1) (links-pass lines n (some (v .number)) (drop 18 rest) back)
 
-table-passes : (file : List ℕ) → FilePasses file → Passes (tableIn file)
+table-passes : (file : List ℕ) → FilePasses file → tableRefusal (tableIn file) ≡ 0
 unfolding tableIn countRecordChecks sizesRecordChecks headerChecks
 table-passes file p =
-    record {
-      counts = rw length-linksIn (p .counts .1 .1 .1);
-      links = links-pass (numberAt 4 2 file) (numberAt 6 2 file) none (drop 8 file) (p .links);
-      sizes = (p .sizes .1 .1 .1 .0, tt);
-    }
+    parts-unmet (tableIn file) (rw length-linksIn (p .counts .1 .1 .1)) (links-pass (numberAt 4 2 file) (numberAt 6 2 file) none (drop 8 file) (p .links))
+    (p .sizes .1 .1 .1 .0, tt)
 
 -- a table that is read passes the checks of tables
 pub read-passes : (file : List ℕ) → readTable file .refused ≡ 0 → tableRefusal (readTable file .table) ≡ 0
 read-passes file e =
     let pass = read-none-met file e in
-    rw (none-met-read file pass) (passes-refusal (tableIn file) (table-passes file (file-passes file pass)))
+    rw (none-met-read file pass) (table-passes file (file-passes file pass))

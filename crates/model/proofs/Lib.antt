@@ -18,7 +18,7 @@ pub mod Serialization
 pub mod Grouping
 pub mod Gate
 pub mod Keeping
-pub mod ValidTable
+pub mod Passing
 pub mod Queues
 pub mod BusyPeriod
 pub mod BusySteps

@@ -12,7 +12,7 @@ use Rattle.model.specs.Table.{Table}
 use Rattle.model.specs.Machine.{Frame, queueOf, framesHeld}
 use Rattle.model.specs.Report.{Port, lineTick, Report, wait, frame, tickOf, frameChecks, reportChecks, roomCheck, reportRefusal}
 use Rattle.model.proofs.Checks.{all-true, Numbered, NoneMet, none-met, none-back}
-use Rattle.model.proofs.ValidTable.{Valid}
+use Rattle.model.proofs.Passing.{Passing}
 use Rattle.model.proofs.Lined.{Lined, over, next, named}
 use Rattle.model.proofs.Fitness.{Fit, fit-is}
 use Rattle.model.proofs.Stepping.{Arrives}
@@ -44,7 +44,7 @@ module _ (p : PortRecord) where
       go q (yes l) = rw (List·getD-eq-default (viewQueues (p .queues)) [] {n = q} (omega (arith, length-shown (p .queues)))) (omega arith)
       go q (no l) = k .few q (omega arith)
 
-lined-positive : (t : Table) (q c low : ℕ) (l : List Frame) → Valid t → Lined t q c low l → Each (λ (f : Frame). 0 < f .length) l
+lined-positive : (t : Table) (q c low : ℕ) (l : List Frame) → Passing t → Lined t q c low l → Each (λ (f : Frame). 0 < f .length) l
 lined-positive t q c low [] v over = done
 lined-positive t q c low (f ∷ l) v (next n a b r) =
     also {a = f} (omega (arith, named t q (f .number) (f .length) v n .long)) (lined-positive t q c (f .arrival) l v r)

@@ -8,7 +8,7 @@ use Rattle.bounds_backlog.proofs.link_steady.Tie as tie
 returns : tie.Need-returns
 returns c =
     let s = c .before .before in
-    link-out (s .args .l) (s .args .high) (s .args .w) (s .pre .1) (c .if1 .taken)
+    link-out (s .args .l) (s .args .high) (s .args .w) (s .pre .2) (c .if1 .taken)
 
 frames-requires : tie.Need-frames-requires
 frames-requires c κs = search needs
