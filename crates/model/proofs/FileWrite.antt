@@ -15,7 +15,7 @@ use Rattle.model.specs.TableFile.{toBytes, numberAt, recordBytes, counts
 use Rattle.model.proofs.Lists.{length-flatMap}
 use Rattle.model.proofs.Bytes.{AllBytes, length-toBytes, from-toBytes, all-drop, number-bytes, numbers-bytes}
 use Rattle.model.proofs.Checks.{NoneMet, none-front, none-back}
-use Rattle.model.proofs.TableFacts.{sizes-fit, passes}
+use Rattle.model.proofs.Passing.{is-passing}
 use Rattle.model.proofs.FileRead.{linksIn, behindLinks, tableIn, linkRecordsChecks, file-passes, length-linksIn, read-none-met, none-met-read}
 
 -- ---- lengths
@@ -44,7 +44,7 @@ length-tableBytes t e =
 
 -- "A file has 44 + 18 × n bytes"
 pub written-length : (t : Table) → tableRefusal t ≡ 0 → length (tableBytes t) ≡ fileLength t
-written-length t e = length-tableBytes t (sizes-fit (t .sizes) (passes t e .sizes) .count)
+written-length t e = length-tableBytes t (is-passing t e .sizes .count)
 
 -- ---- the header of a record
 

@@ -16,7 +16,8 @@ use Rattle.model.specs.TableFile.{toBytes, numberAt, recordBytes, counts
 use Rattle.model.proofs.Lists.{getD-eight}
 use Rattle.model.proofs.Bytes.{from-toBytes, number-among}
 use Rattle.model.proofs.Checks.{NoneMet, none-append, none-front, none-back}
-use Rattle.model.proofs.TableFacts.{FieldsFit, fields-fit, SizesFit, sizes-fit, passes, passes-counts}
+use Rattle.model.proofs.TableFacts.{FieldsFit, fields-fit, SizesFit, sizes-fit, counts-unmet, links-unmet, sizes-unmet}
+use Rattle.model.proofs.Passing.{is-passing}
 use Rattle.model.proofs.FileRead.{linksIn, behindLinks, tableIn, linkRecordsChecks, FilePasses, passes-file, none-met-read}
 use Rattle.model.proofs.FileWrite.{length-record, length-countsBody, length-linkBody, length-sizesBody, HeaderFits, fits-header, record-header}
 
@@ -134,8 +135,8 @@ sizes-record-back sizes pass =
 pub read-written : (t : Table) → tableRefusal t ≡ 0 → readTable (tableBytes t) ≡ record { refused = 0; table = t }
 unfolding tableBytes tableIn
 read-written t e =
-    let p = passes t e in
-    let fit = passes-counts t p in
+    let p = is-passing t e in
+    let fit = p .counts in
     let lines = t .lines in
     let n = length (t .links) in
     let last = recordBytes 3 (sizesBody (t .sizes)) in
@@ -144,11 +145,11 @@ read-written t e =
     let l : numberAt 4 2 file ≡ lines = lines-back lines n rest (omega arith) in
     let c : numberAt 6 2 file ≡ n = count-back lines n rest (omega arith) in
     let b : drop 8 file ≡ rest = behind-counts lines n rest in
-    let links = links-back lines none (t .links) last (omega arith) (p .links) in
+    let links = links-back lines none (t .links) last (omega arith) (links-unmet t e) in
     let parts : FilePasses file =
     record {
-      counts = counts-back lines n rest (omega arith) (omega arith) (p .counts);
+      counts = counts-back lines n rest (omega arith) (omega arith) (counts-unmet t e);
       links = rw (l, c, b) (links .pass);
-      sizes = rw (c, b, links .behind-is) (sizes-record-back (t .sizes) (p .sizes));
+      sizes = rw (c, b, links .behind-is) (sizes-record-back (t .sizes) (sizes-unmet t e));
     } in
-    rw append-assoc (none-met-read file (passes-file file parts) ∙ rw (l, c, b, links .links-are, links .behind-is, sizes-back (t .sizes) (sizes-fit (t .sizes) (p .sizes))))
+    rw append-assoc (none-met-read file (passes-file file parts) ∙ rw (l, c, b, links .links-are, links .behind-is, sizes-back (t .sizes) (p .sizes)))

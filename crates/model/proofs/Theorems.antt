@@ -1,6 +1,6 @@
 -- The theorems of specs/Promises.antt and specs/Examples.antt, each under its name.
 use Rattle.model.specs.Basics.{also}
-use Rattle.model.specs.Promises.{ReadsWritten, WritesRead, FileLength, DemandThree, NeverUnfit, FitnessKept, LengthsKept, CurveGrows, HoldIsSmallest, BoundIsGreatest, NoneAppears, DeparturesInTime, DeparturesSpaced, PassedKeep}
+use Rattle.model.specs.Promises.{ReadsWritten, WritesRead, FileLength, DemandThree, NeverUnfit, FitnessKept, LengthsKept, CurveGrows, HoldIsSmallest, HoldGrows, BoundIsGreatest, NoneAppears, DeparturesInTime, DeparturesSpaced, PassedKeep}
 use Rattle.model.specs.Examples.{ExamplesCorrect}
 use Rattle.model.proofs.ReadBack as ReadBack
 use Rattle.model.proofs.FileWrite as FileWrite
@@ -41,6 +41,9 @@ curve-grows = Curves.curve-grows
 
 pub hold-is-smallest : HoldIsSmallest
 hold-is-smallest = Holds.hold-smallest
+
+pub hold-grows : HoldGrows
+hold-grows = Holds.hold-grows
 
 pub bound-is-greatest : BoundIsGreatest
 bound-is-greatest = BoundFacts.bound-greatest

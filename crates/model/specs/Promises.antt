@@ -10,7 +10,7 @@ use Rattle.model.specs.Link.{VirtualLink, linkAt, anyOf}
 use Rattle.model.specs.Table.{Table, tableRefusal}
 use Rattle.model.specs.TableFile.{tableBytes, readTable, fileLength}
 use Rattle.model.specs.Arrival.{arrivalCurve}
-use Rattle.model.specs.Bounds.{ofPriority, upArrivals, blocking, holdOf, backlog, boundsRefusal, hold, bound}
+use Rattle.model.specs.Bounds.{ofPriority, upArrivals, blocking, holdBy, holdOf, backlog, boundsRefusal, hold, bound}
 use Rattle.model.specs.Machine.{Frame, Departure, advance, framesHeld}
 use Rattle.model.specs.Port.{Port}
 use Rattle.model.specs.Fitness.{fit}
@@ -68,6 +68,12 @@ pub record IsHold (t : Table) (p w : ℕ) : Type 0 where
 -- holdOf gives it, or there is none
 abbrev pub HoldIsSmallest : Type 0
 HoldIsSmallest = (t : Table) (p : ℕ) → ((w : ℕ) → holdOf t p ≡ some w → IsHold t p w) × (holdOf t p ≡ none → (w : ℕ) → 1 ≤ w → w ≤ 65_536 → w < blocking t p + upArrivals t p (w - 1))
+
+-- the hold grows with b and A, as of two tables: where the greater have a hold, the smaller have one that is no later; where the smaller
+-- have none, the greater have none
+abbrev pub HoldGrows : Type 0
+HoldGrows = (b b' : ℕ) (up up' : ℕ → ℕ) → b ≤ b' → ((w : ℕ) → up w ≤ up' w)
+    → ((h' : ℕ) → holdBy b' up' ≡ some h' → (h : ℕ) × (holdBy b up ≡ some h) × (h ≤ h')) × (holdBy b up ≡ none → holdBy b' up' ≡ none)
 
 -- of a table that has bounds: the bound is attained and is the greatest, and the difference in it is never truncated
 pub record BoundFacts (t : Table) (p : ℕ) : Type 0 where

@@ -12,7 +12,7 @@ use Rattle.model.specs.Table.{Table}
 use Rattle.model.specs.Machine.{Frame, queueOf, framesHeld}
 use Rattle.model.specs.Report.{Port, lineTick, Report, wait, frame, tickOf, frameChecks, reportChecks, roomCheck, reportRefusal}
 use Rattle.model.proofs.Checks.{all-true, Numbered, NoneMet, none-met, none-back}
-use Rattle.model.proofs.ValidTable.{Valid}
+use Rattle.model.proofs.Passing.{Passing}
 use Rattle.model.proofs.Lined.{Lined, over, next, named}
 use Rattle.model.proofs.Fitness.{Fit, fit-is}
 use Rattle.model.proofs.Stepping.{Arrives}
@@ -44,7 +44,7 @@ module _ (p : PortRecord) where
       go q (yes l) = rw (List·getD-eq-default (viewQueues (p .queues)) [] {n = q} (omega (arith, length-shown (p .queues)))) (omega arith)
       go q (no l) = k .few q (omega arith)
 
-lined-positive : (t : Table) (q c low : ℕ) (l : List Frame) → Valid t → Lined t q c low l → Each (λ (f : Frame). 0 < f .length) l
+lined-positive : (t : Table) (q c low : ℕ) (l : List Frame) → Passing t → Lined t q c low l → Each (λ (f : Frame). 0 < f .length) l
 lined-positive t q c low [] v over = done
 lined-positive t q c low (f ∷ l) v (next n a b r) =
     also {a = f} (omega (arith, named t q (f .number) (f .length) v n .long)) (lined-positive t q c (f .arrival) l v r)
@@ -55,17 +55,17 @@ pub record Accepted (p : PortRecord) (r : Report) (room : ℕ) : Type 0 where
   pub ready : Ready (p .queues) (p .sender) (p .clock) (tickOf r) room
 
 module _ (t : Table) (s : Port) (r : Report) (room : ℕ) where
-  numbered : Numbered 16 (reportChecks t s r ++ (roomCheck s room ∷ []))
+  numbered : Numbered (reportChecks t s r ++ (roomCheck s room ∷ []))
   unfolding reportChecks frameChecks
   numbered = go r
     where
-      go : (q : Report) → Numbered 16 (reportChecks t s q ++ (roomCheck s room ∷ []))
+      go : (q : Report) → Numbered (reportChecks t s q ++ (roomCheck s room ∷ []))
       go (wait time) = omega arith
       go (frame time line number len) = omega arith
 
   none-refuses : reportRefusal t s r room ≡ 0 → NoneMet (reportChecks t s r ++ (roomCheck s room ∷ []))
   unfolding reportRefusal
-  none-refuses e = none-met 16 (reportChecks t s r ++ (roomCheck s room ∷ [])) numbered e
+  none-refuses e = none-met (reportChecks t s r ++ (roomCheck s room ∷ [])) numbered e
 
 module _ (p : PortRecord) where
   module _ (r : Report) (room : ℕ) (e : reportRefusal (viewPortTable p) (viewPort p) r room ≡ 0) where

@@ -17,11 +17,12 @@ use Rattle.model.specs.Machine.{Frame, advance, at, queueOf, held}
 use Rattle.model.specs.Report.{Port, blankAccount, accountAt, Report, wait, frame, tickOf, fit, reportChecks, reportRefusal, Judged, judged, admits, arrived, withAccount, withLineTick, judgeReport, refusal, acceptedOr, step, Stepped}
 use Rattle.model.proofs.Checks.{all-true, first-zero}
 use Rattle.model.proofs.Stepping.{Timely, Arrives, movedTo, placed}
-use Rattle.model.proofs.ValidTable.{Valid}
+use Rattle.model.proofs.Passing.{Passing}
 use Rattle.model.proofs.Fitness.{Fit}
 use Rattle.table.specs.declared.VirtualLink.{VirtualLink as LinkFields}
 use Rattle.table.specs.View.{viewLink, blankFields, viewLinks, viewTable}
-use Rattle.table.proofs.Shape.{link-shown, count-shown}
+use Rattle.table.proofs.Shape.{count-shown}
+use Rattle.table.proofs.PassingRecord.{counts-pass, entry-is}
 use Rattle.port_policing.specs.declared.Checked.{Checked}
 use Rattle.port_policing.specs.Check.{viewAccount, recordAccount, checkOf}
 use Rattle.port_scheduler.specs.declared.Frame.{Frame as FrameRecord}
@@ -44,7 +45,7 @@ use Rattle.table_lookup.specs.Places.{Found}
 use Rattle.port.specs.Charging.{chargeOf}
 use Rattle.port_storing.specs.Storing.{verdictIf, Roomy, Settles}
 use Rattle.port.specs.Contracts.{stepFrom, Answered}
-use Rattle.table_lookup.proofs.Tables.{Passing, passing, counts-pass}
+use Rattle.table_lookup.proofs.Tables.{links-named}
 use Rattle.port.proofs.Whole.{Whole}
 use Rattle.port.proofs.Accepted.{accepted}
 use Rattle.port.proofs.Accepted.{arrives as arrives-at-line}
@@ -73,11 +74,11 @@ table-passes t s r room e =
     eqb-true (tableRefusal t) 0 (all-true _ (not-false (fit t s) (first-zero (check 10 (not (fit t s))) _ (omega arith) e .0)) .0)
 
 module _ (p : PortRecord) (w : Whole p) (r : Report) (room : ℕ) (ok : NotRefused p r room) where
-  pub passed : Passing (p .table)
-  passed = passing (p .table) (w .table) (table-passes (viewPortTable p) (viewPort p) r room ok)
+  pub passed : tableRefusal (viewTable (p .table)) ≡ 0
+  passed = table-passes (viewPortTable p) (viewPort p) r room ok
 
   lines-few : p .table .lines ≤ 24
-  lines-few = counts-pass (p .table) (table-passes (viewPortTable p) (viewPort p) r room ok) .lines-most
+  lines-few = counts-pass (p .table) passed .lines-most
 
   fits : Fit (viewPortTable p) (viewPort p)
   fits = accepted p r room ok .fit-port
@@ -91,10 +92,10 @@ module _ (p : PortRecord) (w : Whole p) (r : Report) (room : ℕ) (ok : NotRefus
 
   -- what a lookup found
   pub found-at : {number i : ℕ} {x : Place} → Found (p .table .numbers) (p .table .count) number x → x ≡ At i → placeOf number (viewLinks (p .table)) ≡ some i
-  found-at f e = f .place (viewLinks (p .table)) (passed .named) ∙ rw e
+  found-at f e = f .place (viewLinks (p .table)) (links-named (p .table) passed) ∙ rw e
 
   pub found-nowhere : {number : ℕ} {x : Place} → Found (p .table .numbers) (p .table .count) number x → x ≡ Nowhere → placeOf number (viewLinks (p .table)) ≡ none
-  found-nowhere f e = f .place (viewLinks (p .table)) (passed .named) ∙ rw e
+  found-nowhere f e = f .place (viewLinks (p .table)) (links-named (p .table) passed) ∙ rw e
 
 -- ---- a frame report
 module _ (p : PortRecord) (w : Whole p) (time line number len room : ℕ) (ok : NotRefused p (frame time line number len) room) where
@@ -120,15 +121,15 @@ module _ (p : PortRecord) (w : Whole p) (time line number len room : ℕ) (ok : 
     fields = getD (p .table .links) i blankFields
 
     pub place-in : i < 256
-    place-in = omega (arith, passed p w (frame time line number len) room ok .links-most)
+    place-in = omega (arith, counts-pass (p .table) (passed p w (frame time line number len) room ok) .links-most)
 
     pub link-is : linkAt (viewLinks (p .table)) i ≡ viewLink (getD (p .table .numbers) i 0) fields
-    link-is = link-shown (p .table) i (w .table) at-place (passed p w (frame time line number len) room ok .links-most)
+    link-is = entry-is (p .table) (passed p w (frame time line number len) room ok) i at-place
 
     pub priority-in : fields .priority < 8
     unfolding viewTable
     priority-in =
-        let v : Valid (viewPortTable p) = fits p w (frame time line number len) room ok .table in
+        let v : Passing (viewPortTable p) = fits p w (frame time line number len) room ok .table in
         let e : linkAt (viewLinks (p .table)) i .priority ≡ fields .priority = ap (λ (u : VirtualLink). u .priority) link-is in
         omega (arith, v .fields i (omega (arith, count-shown (p .table))) .priority-most)
 

@@ -88,11 +88,11 @@ module _ (t : Table) (s : Port) (r : Report) (room : ℕ) where
       too-early h = sym (past-last ∙ first-here (check 12 (ltb (tickOf r) (s .scheduler .clock))) _ (lt-ltb (tickOf r) (s .scheduler .clock) h))
 
       module _ (b : s .scheduler .clock ≤ tickOf r) {n : ℕ} (e : n ≡ firstMet (frameChecks t s r)) where
-        numbered : Numbered 15 (frameChecks t s r)
+        numbered : Numbered (frameChecks t s r)
         unfolding frameChecks
         numbered = go r
           where
-            go : (q : Report) → Numbered 15 (frameChecks t s q)
+            go : (q : Report) → Numbered (frameChecks t s q)
             go (wait time) = tt
             go (frame time line number len) = omega arith
 
@@ -100,7 +100,7 @@ module _ (t : Table) (s : Port) (r : Report) (room : ℕ) where
         past-clock =
             past-last
             ∙ first-later (check 12 (ltb (tickOf r) (s .scheduler .clock))) _ (le-ltb (tickOf r) (s .scheduler .clock) b)
-            ∙ first-append 15 (frameChecks t s r) (roomCheck s room ∷ []) numbered
+            ∙ first-append (frameChecks t s r) (roomCheck s room ∷ []) numbered
             ∙ rw (← e)
 
         pub frame-refused : (n ≡ 0 → ⊥) → n ≡ reportRefusal t s r room

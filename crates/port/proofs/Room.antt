@@ -33,5 +33,5 @@ module _ (t : Table) (s : Port) (k : Fit t s) where
         omega (
           arith,
           lined-count t p (movedTo s time .scheduler .clock) 0 (queueOf (movedTo s time .scheduler .queues) p) (k .table) (o .lined p),
-          k .table .sizes-most p,
+          k .table .sizes .most p,
         )

@@ -23,7 +23,7 @@ use Rattle.table_record_reader.proofs.Numbers.{one-read}
 
 -- ---- the header
 module _ (kind len : ℕ) (rest : List ℕ) where
-  pub header-numbered : Numbered 9 (headerChecks kind len rest)
+  pub header-numbered : Numbered (headerChecks kind len rest)
   unfolding headerChecks
   header-numbered = omega arith
 
@@ -52,7 +52,7 @@ module _ (kind len : ℕ) (rest : List ℕ) where
 
 -- the body is there
 pub body-there : (kind len : ℕ) (rest : List ℕ) (r : ℕ) → r ≡ firstMet (headerChecks kind len rest) → r ≡ 0 → 2 + len ≤ length rest
-body-there kind len rest r e z = header-fits kind len rest (none-met 9 (headerChecks kind len rest) (header-numbered kind len rest) (sym e ∙ z)) .body
+body-there kind len rest r e z = header-fits kind len rest (none-met (headerChecks kind len rest) (header-numbered kind len rest) (sym e ∙ z)) .body
 
 -- ---- a refusal, or the record
 said-refused : (n r : ℕ) (next : Said) → r ≡ n → (r ≡ 0 → ⊥) → said (Refused r) ≡ saidOr n next

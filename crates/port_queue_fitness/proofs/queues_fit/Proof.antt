@@ -13,7 +13,7 @@ use Rattle.port_scheduler.proofs.Shape.{queues-eight}
 use Rattle.port_scheduler.proofs.Sums.{frames-none, frames-more}
 use Rattle.port_queue_fitness.specs.Queues.{queueFits}
 use Rattle.port_fitness.proofs.All.{all-none, all-more}
-use Rattle.table_lookup.proofs.Tables.{counts-pass}
+use Rattle.table.proofs.PassingRecord.{counts-pass}
 use Rattle.port_queue_fitness.proofs.QueueTests.{too-many, load-unfit, mark-above, queue-fits, none-queued, queue-told, sender-told, all-told}
 use Rattle.port_fitness.proofs.Sending.{sends-nothing, no-queue}
 use Rattle.port_queue_fitness.proofs.queues_fit.Statement.{statement}

@@ -1,6 +1,6 @@
 use mathlib.Core.Path.{sym, _∙_}
 use borrow.Author.Tests.{not-true, not-false}
-use Rattle.table_lookup.proofs.Tables.{counts-pass}
+use Rattle.table.proofs.PassingRecord.{counts-pass}
 use Rattle.port.proofs.Conditions.{table-refused, clock-late, queues-unfit, lines-unfit, accounts-decide}
 use borrow.Author.Needs.{needs}
 use Rattle.port.proofs.refusals.fit.Statement.{statement}

@@ -3,14 +3,16 @@ use mathlib.Core.Path.{_≡_, sym, ap, _∙_}
 use Prim.Native.Nat.{ℕ, _<_}
 use lib.ListN.{length, getD}
 use Rattle.model.specs.Link.{VirtualLink}
+use Rattle.model.specs.Table.{tableRefusal}
 use Rattle.model.specs.Report.{frame}
 use Rattle.model.specs.Report.{admits as admitted}
-use Rattle.table.specs.View.{viewLink, blankFields}
+use Rattle.table.specs.View.{viewLink, blankFields, viewTable}
 use Rattle.port_scheduler.specs.declared.Frame.{Frame}
 use Rattle.port.specs.declared.Port.{Port}
 use Rattle.port.specs.View.{viewReport}
 use Rattle.port.specs.Charging.{chargeOf}
-use Rattle.table_lookup.proofs.Tables.{Passing}
+use Rattle.table.proofs.PassingRecord.{counts-pass}
+use Rattle.table_lookup.proofs.Tables.{searchable}
 use Rattle.port.proofs.Whole.{Whole, whole}
 use Rattle.port.proofs.Answers.{NotRefused, is-wait, is-frame, passed, ready, found-at, found-nowhere, line-in, length-most, priority-in, roomy, reached, waits, arrives-nowhere, is-filtered, is-policed, is-settled}
 use borrow.Author.Needs.{needs}
@@ -47,7 +49,7 @@ module _ (c : tie.After-known-told) where
   on-line : line < 24
   on-line = line-in (start .args .p) (entire start) time line number len (length (start .args .list .now)) accepted
 
-  passes : Passing (start .args .p .table)
+  passes : tableRefusal (viewTable (start .args .p .table)) ≡ 0
   passes = passed (start .args .p) (entire start) (frame time line number len) (length (start .args .list .now)) accepted
 
 -- a frame of a link
@@ -62,7 +64,7 @@ module _ (c : tie.After-known-told2) where
   in-table = c .before .before .before .place-of .ensures .below place (c .before .i .given .1)
 
   in-array : place < 256
-  in-array = omega (arith, in-table, passes framed .links-most)
+  in-array = omega (arith, in-table, counts-pass (start framed .args .p .table) (passes framed) .links-most)
 
   in-queues : getD (start framed .args .p .table .links) place blankFields .priority < 8
   in-queues = priority-in (start framed .args .p) (entire (start framed)) (time framed) (line framed) (number framed) (len framed) (length (start framed .args .list .now)) (accepted framed) place in-table
@@ -109,7 +111,7 @@ array-write-line-ticks c =
 
 place-of-requires : tie.Need-place-of-requires
 place-of-requires c κs =
-    let k = passes (c .before .before) in (k .some-link, k .links-most, k .rising)
+    searchable (start (c .before .before) .args .p .table) (passes (c .before .before))
 
 enum-known-i : tie.Need-enum-known-i
 enum-known-i c = search needs

@@ -1,22 +1,22 @@
--- A table that passes: its links' fields are in range, its numbers rise.
+-- A table that passes: counts, fields and sizes are in range, the numbers rise. A check more of a table is a field more.
 use mathlib.Core.Path.{_≡_}
 use mathlib.Core.Option.{Option, none, some}
 use mathlib.Core.List.{List, [], _∷_}
-use Prim.Native.Nat.{ℕ, zero, suc, _≤_, _<_}
+use Prim.Native.Nat.{ℕ, zero, suc, _<_}
 use native.Mathlib.Omega.{arith}
 use borrow.Author.Tests.{leb-false, not-false}
 use lib.ListN.{length}
 use Rattle.model.specs.Link.{VirtualLink, linkAt}
-use Rattle.model.specs.Table.{Table, sizeOf, fieldsInRange, notAbove, linkChecks, linksChecks, tableRefusal}
+use Rattle.model.specs.Table.{Table, countsInRange, fieldsInRange, notAbove, linkChecks, linksChecks, tableRefusal}
 use Rattle.model.proofs.Checks.{NoneMet, none-back}
-use Rattle.model.proofs.TableFacts.{CountsFit, FieldsFit, fields-fit, sizes-fit, Passes, passes, passes-counts}
+use Rattle.model.proofs.TableFacts.{CountsFit, counts-fit, FieldsFit, fields-fit, SizesFit, sizes-fit, counts-unmet, links-unmet, sizes-unmet}
 use Rattle.model.proofs.Gate.{Rising}
 
-pub record Valid (t : Table) : Type 0 where
+pub record Passing (t : Table) : Type 0 where
   pub counts : CountsFit (t .lines) (length (t .links))
   pub fields : (i : ℕ) → i < length (t .links) → FieldsFit (t .lines) (linkAt (t .links) i)
   pub rising : Rising (t .links)
-  pub sizes-most : (p : ℕ) → sizeOf t p ≤ 16_384
+  pub sizes : SizesFit (t .sizes)
 
 module _ (lines : ℕ) where
   rest-pass : (previous : Option ℕ) (v : VirtualLink) (links : List VirtualLink) → NoneMet (linksChecks lines previous (v ∷ links)) → NoneMet (linksChecks lines (some (v .number)) links)
@@ -42,12 +42,11 @@ module _ (lines : ℕ) where
   numbers-rise previous (v ∷ links) pass zero (suc j) k l = numbers-above (v .number) links (rest-pass previous v links pass) j (omega arith)
   numbers-rise previous (v ∷ links) pass (suc i) (suc j) k l = numbers-rise (some (v .number)) links (rest-pass previous v links pass) i j (omega arith) (omega arith)
 
-pub valid : (t : Table) → tableRefusal t ≡ 0 → Valid t
-valid t e =
-    let p : Passes t = passes t e in
+pub is-passing : (t : Table) → tableRefusal t ≡ 0 → Passing t
+is-passing t e =
     record {
-      counts = passes-counts t p;
-      fields = fields-pass (t .lines) none (t .links) (p .links);
-      rising = numbers-rise (t .lines) none (t .links) (p .links);
-      sizes-most = sizes-fit (t .sizes) (p .sizes) .most;
+      counts = counts-fit (t .lines) (length (t .links)) (not-false (countsInRange (t .lines) (length (t .links))) (counts-unmet t e .0));
+      fields = fields-pass (t .lines) none (t .links) (links-unmet t e);
+      rising = numbers-rise (t .lines) none (t .links) (links-unmet t e);
+      sizes = sizes-fit (t .sizes) (sizes-unmet t e);
     }
