@@ -1,6 +1,7 @@
 -- Nobody needs to read below here: the theorems are stated in specs/Promises.antt and specs/Examples.antt, and named in Theorems.
 pub mod Lists
 pub mod Entries
+pub mod Digits
 pub mod Bytes
 pub mod Checks
 pub mod TableFacts

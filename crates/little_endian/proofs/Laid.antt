@@ -5,7 +5,7 @@ use Prim.Native.Nat.{ℕ, _+_, _-_, _≤_}
 use native.Mathlib.Omega.{arith}
 use lib.ListN.{length, take, drop, length-append, length-take, length-drop, drop-of-length-le, take-append-drop}
 use lib.Seq.{length-take-le, take-at, drop-append-add, drop-drop, sets, sets-eq, take-all}
-use Rattle.table_record_writer.specs.Output.{laid}
+use Rattle.little_endian.specs.Output.{laid}
 
 pub length-laid : (at : ℕ) (bytes output : List ℕ) → at + length bytes ≤ length output → length (laid at bytes output) ≡ length output
 unfolding laid
@@ -41,6 +41,9 @@ module _ (at : ℕ) (a b output : List ℕ) (h : at + length a + length b ≤ le
 
 pub laid-behind : (at n : ℕ) (a b output : List ℕ) → n ≡ at + length a → n + length b ≤ length output → laid n b (laid at a output) ≡ laid at (a ++ b) output
 laid-behind at n a b output e h = rw e (both at a b output (omega arith))
+
+pub then-laid : (at n : ℕ) (a b output x y : List ℕ) → n ≡ at + length a → n + length b ≤ length output → x ≡ laid at a output → y ≡ laid n b x → y ≡ laid at (a ++ b) output
+then-laid at n a b output x y e h p q = q ∙ ap (laid n b) p ∙ laid-behind at n a b output e h
 
 put-back : (at : ℕ) (bytes output part last : List ℕ) → part ≡ laid 0 bytes (drop at output) → last ≡ [] → take at output ++ (part ++ last) ≡ laid at bytes output
 unfolding laid
