@@ -11,6 +11,7 @@ use lib.ListN.{length, drop, length-append, drop-of-length-le}
 use Rattle.model.specs.Basics.{check}
 use Rattle.model.specs.Link.{VirtualLink}
 use Rattle.model.specs.Table.{Table, countChecks, linkChecks, sizeChecks, tableRefusal}
+use Rattle.model.specs.Digits.{digitsOf}
 use Rattle.model.specs.TableFile.{toBytes, numberAt, recordBytes, countsBody, linkBody, sizesBody, tableBytes, fileLength, headerChecks, linkRead, sizesRead, readTable, countRecordChecks, linkRecordChecks, sizesRecordChecks}
 use Rattle.model.proofs.Lists.{length-flatMap}
 use Rattle.model.proofs.Bytes.{AllBytes, length-toBytes, from-toBytes, all-drop, number-bytes, numbers-bytes}
@@ -21,15 +22,15 @@ use Rattle.model.proofs.FileRead.{linksIn, behindLinks, tableIn, linkRe
 -- ---- lengths
 
 pub length-record : (kind : ℕ) (body : List ℕ) → length (recordBytes kind body) ≡ 4 + length body
-unfolding recordBytes toBytes
+unfolding recordBytes digitsOf
 length-record kind body = omega arith
 
 pub length-countsBody : (lines n : ℕ) → length (countsBody lines n) ≡ 4
-unfolding countsBody toBytes
+unfolding countsBody digitsOf
 length-countsBody lines n = refl
 
 pub length-linkBody : (v : VirtualLink) → length (linkBody v) ≡ 14
-unfolding linkBody toBytes
+unfolding linkBody digitsOf
 length-linkBody v = refl
 
 pub length-sizesBody : (sizes : List ℕ) → length (sizesBody sizes) ≡ 4 * length sizes
@@ -74,7 +75,7 @@ fits-header kind len rest fits = (
 
 -- a record that is written has the header that is due
 pub record-header : (kind len : ℕ) (body rest : List ℕ) → 2 + length body ≡ len → kind < 65_536 → len < 65_536 → HeaderFits kind len (recordBytes kind body ++ rest)
-unfolding recordBytes toBytes
+unfolding recordBytes digitsOf
 record-header kind len body rest e k l =
     record { header = omega arith; length-due = from-toBytes 2 (2 + length body) (omega arith) ∙ e; kind-due = from-toBytes 2 kind k; body = rw length-append (omega arith) }
 

@@ -3,6 +3,7 @@
 -- ---- lists, entries before a count, bytes, checks
 pub mod Lists
 pub mod Entries
+pub mod Digits
 pub mod Bytes
 pub mod Checks
 -- ---- tables that pass, table files

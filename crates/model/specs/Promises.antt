@@ -3,11 +3,12 @@ use mathlib.Core.Path.{_≡_}
 use mathlib.Core.Bool.{Bool, true, false, cond}
 use mathlib.Core.Option.{Option, none, some}
 use mathlib.Core.List.{List, [], _∷_, _++_}
-use Prim.Native.Nat.{ℕ, _+_, _-_, _≤_, _<_}
+use Prim.Native.Nat.{ℕ, _+_, _-_, _^_, _≤_, _<_}
 use lib.Dec.{eqb}
 use lib.ListN.{length, getD}
 use Rattle.model.specs.Link.{VirtualLink, linkAt, anyOf}
 use Rattle.model.specs.Table.{Table, tableRefusal}
+use Rattle.model.specs.Digits.{digitsOf, fromDigits, AllDigits}
 use Rattle.model.specs.TableFile.{tableBytes, readTable, fileLength}
 use Rattle.model.specs.Arrival.{arrivalCurve}
 use Rattle.model.specs.Bounds.{ofPriority, upArrivals, blocking, holdBy, holdOf, backlog, boundsRefusal, hold, bound}
@@ -126,3 +127,15 @@ DeparturesSpaced = (t : Table) → tableRefusal t ≡ 0 → (calls : List Call) 
 abbrev pub PassedKeep : Type 0
 PassedKeep = (t : Table) → tableRefusal t ≡ 0 → (calls : List Call) → (i : ℕ) → i < length (t .links)
     → KeepBagAndJitter (linkAt (t .links) i) (ticksOf passedBy (linkAt (t .links) i .number) (run t calls .log))
+
+-- ---- numbers as digits, in any base
+
+-- a number that fits a width has as many digits, and is read from them
+abbrev pub DigitsRead : Type 0
+DigitsRead = (base width n : ℕ) → n < base ^ width
+    → (length (digitsOf base width n) ≡ width) × AllDigits base (digitsOf base width n) × (fromDigits base (digitsOf base width n) ≡ n)
+
+-- digits are those of the number that they are, which fits their width
+abbrev pub DigitsWritten : Type 0
+DigitsWritten = (base : ℕ) (digits : List ℕ) → AllDigits base digits
+    → (fromDigits base digits < base ^ length digits) × (digitsOf base (length digits) (fromDigits base digits) ≡ digits)

@@ -1,7 +1,7 @@
 // The reports file, part by part.
 use crate::answers;
 use crate::answers::LIST;
-use fields::eight;
+use little_endian::read8;
 use port::Answer;
 use port::Port;
 ghost use Prim.Native.Nat.{_≤_};
@@ -62,7 +62,7 @@ fn is_run(bytes: &[u8; ROOM], n: usize) -> bool {
     let end = least(n, ROOM);
     let mut at: usize = 0;
     while at < end {
-        if eight(bytes, at) > 1 {
+        if read8(bytes, at) > 1 {
             return false;
         }
         at += REPORT;
@@ -136,13 +136,13 @@ fn replay_one(port: Port, bytes: &[u8; ROOM], at: usize, list: &mut [u64; LIST])
 fn report(port: Port, bytes: &[u8], at: usize, list: &mut [u64]) -> Answer
     requires { ⌜ at ≤ 8000 ⌝ }
 {
-    let form = eight(bytes, at);
-    let tick = eight(bytes, at + 8);
+    let form = read8(bytes, at);
+    let tick = read8(bytes, at + 8);
     if form == 0 {
         return port.wait(tick, list);
     }
-    let line = eight(bytes, at + 16);
-    let number = eight(bytes, at + 24);
-    let length = eight(bytes, at + 32);
+    let line = read8(bytes, at + 16);
+    let number = read8(bytes, at + 24);
+    let length = read8(bytes, at + 32);
     port.frame(tick, line, number, length, list)
 }

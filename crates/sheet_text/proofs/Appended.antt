@@ -6,8 +6,8 @@ use native.Mathlib.Numerals.{add-one, unary-clauses}
 use native.Mathlib.Omega.{arith}
 use lib.ListN.{length, getD, take, drop, set, replicate, length-append}
 use lib.Seq.{take-suc, take-all, length-take-le, take-append-seam, drop-append-add}
-use Rattle.table_record_writer.specs.Output.{laid}
-use Rattle.table_record_writer.proofs.Laid.{length-laid, none-laid, laid-behind, stores-laid}
+use Rattle.little_endian.specs.Output.{laid}
+use Rattle.little_endian.proofs.Laid.{length-laid, none-laid, laid-behind, stores-laid}
 use Rattle.sheet_text.specs.declared.Text.{Text}
 use Rattle.sheet_text.specs.Fixed.{textRoom, recordText, Appended}
 

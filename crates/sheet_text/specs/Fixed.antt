@@ -5,7 +5,7 @@ use Prim.Native.Nat.{ℕ, zero, suc, _+_, _-_, _*_, _≤_}
 use lib.ListN.{length, getD, replicate}
 use lib.IntN.{ℤ, pos, negsuc}
 use Rattle.model.specs.Sheet.{text, numeral, sheetLine, header}
-use Rattle.table_record_writer.specs.Output.{laid}
+use Rattle.little_endian.specs.Output.{laid}
 use Rattle.sheet_text.specs.declared.Text.{Text}
 
 -- the most bytes of a line, and of a sheet: the header, and a line for each priority

@@ -15,12 +15,14 @@ use Rattle.model.proofs.TableFacts.{table-numbered}
 use Rattle.model.proofs.FileWrite.{length-record, length-countsBody, length-sizesBody, length-tableBytes}
 use Rattle.table.specs.declared.Table.{Table as TableRecord}
 use Rattle.table.specs.View.{viewLinks, viewTable}
-use Rattle.table_record_writer.specs.Output.{laid, linkRecord}
+use Rattle.little_endian.specs.Output.{laid}
+use Rattle.table_record_writer.specs.Records.{linkRecord}
 use Rattle.table_file.specs.Answers.{Wrote}
 use Rattle.table.proofs.Shape.{count-shown}
 use Rattle.table.proofs.PassingRecord.{counts-pass}
 use Rattle.table.proofs.Refusals.{stops-in-front, goes-on-behind}
-use Rattle.table_record_writer.proofs.Written.{then-laid, length-linkRecord}
+use Rattle.little_endian.proofs.Laid.{then-laid}
+use Rattle.table_record_writer.proofs.Written.{length-linkRecord}
 
 -- ---- refusals
 stopped : (n r : ℕ) (t : Table) (output : List ℕ) → r ≡ n → (r ≡ 0 → ⊥) → wroteOr n t output ≡ record { refused = r; written = 0; output = output }

@@ -2,7 +2,7 @@ use mathlib.Core.Path.{_≡_}
 use Prim.Native.Nat.{_+_, _-_, _≤_}
 use native.Mathlib.Omega.{arith}
 use lib.ListN.{length, take, length-set}
-use Rattle.table_record_writer.specs.Output.{laid}
+use Rattle.little_endian.specs.Output.{laid}
 use Rattle.sheet_text.specs.Fixed.{textRoom}
 use Rattle.sheet_text.proofs.Shape.{sized}
 use Rattle.sheet_text.proofs.Appended.{none-put, one-put, all-put}
