@@ -4,10 +4,10 @@ use crate::text::ROOM;
 use libc::STDERR_FILENO;
 use port::Port;
 use port_scheduler::Queue;
+use units::LIST_ROOM;
+use units::MOST_FRAMES;
+use units::MOST_HELD;
 ghost use Prim.Native.Nat.{_≤_};
-
-// Room for all that 8 queues of 195 frames can free, three numbers each.
-pub(crate) const LIST: usize = 4680;
 
 // To standard error: a message; or `refused` alone, which tells that all is refused and not one report of a list.
 pub(crate) fn tell(what: &[u8], name: &[u8]) {
@@ -36,7 +36,7 @@ pub(crate) fn put_answer(
     verdict: u64,
     frames: u64,
     bytes: u64,
-    list: &[u64; LIST],
+    list: &[u64; LIST_ROOM],
 ) -> Out {
     if refused != 0 {
         return put_refused(out, room, refused);
@@ -54,8 +54,8 @@ fn put_refused(out: Out, room: &mut [u8; ROOM], number: u64) -> Out {
 }
 
 // The departures, three numbers of the list each, and the end of the line.
-fn put_departures(out: Out, room: &mut [u8; ROOM], list: &[u64; LIST], frames: u64) -> Out {
-    let n = least(frames, 1560) as usize;
+fn put_departures(out: Out, room: &mut [u8; ROOM], list: &[u64; LIST_ROOM], frames: u64) -> Out {
+    let n = least(frames, MOST_HELD as u64) as usize;
     let mut line = out;
     let mut i: usize = 0;
     while i < n {
@@ -96,7 +96,7 @@ fn put_queue(out: Out, room: &mut [u8; ROOM], p: u64, q: Queue) -> Out {
 }
 
 fn held(q: Queue) -> u64 {
-    if q.count > 195 {
+    if q.count > MOST_FRAMES as u16 {
         return 0;
     }
     port_scheduler::held(q)

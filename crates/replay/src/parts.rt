@@ -1,11 +1,11 @@
 // The reports file, part by part.
 use crate::answers;
-use crate::answers::LIST;
 use crate::text::Out;
 use crate::text::ROOM;
 use little_endian::read8;
 use port::Answer;
 use port::Port;
+use units::LIST_ROOM;
 ghost use Prim.Native.Nat.{_≤_};
 
 const REPORT: usize = 40;
@@ -133,7 +133,7 @@ fn finished(room: &mut [u8; ROOM], run: Run, state: u8) -> Out {
 }
 
 fn replay_part(run: Run, part: Part, room: &mut [u8; ROOM]) -> Run {
-    let mut list = [0u64; LIST];
+    let mut list = [0u64; LIST_ROOM];
     let bytes = part.bytes;
     let end = least(part.n, PART);
     let mut port = run.port;
@@ -156,7 +156,7 @@ fn replay_part(run: Run, part: Part, room: &mut [u8; ROOM]) -> Run {
     Run { port, out }
 }
 
-fn report(port: Port, bytes: &[u8; PART], at: usize, list: &mut [u64; LIST]) -> Answer
+fn report(port: Port, bytes: &[u8; PART], at: usize, list: &mut [u64; LIST_ROOM]) -> Answer
     requires { ⌜ at ≤ 8000 ⌝ }
 {
     let form = read8(bytes, at);

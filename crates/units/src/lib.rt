@@ -22,8 +22,10 @@ pub const UNKEPT: u64 = 0;
 // No queue counts more frames.
 pub const MOST_FRAMES: usize = 195;
 
-// A departure list that has room for all that eight full queues hold, three numbers each.
-pub const LIST_ROOM: usize = 24 * MOST_FRAMES;
+// What eight full queues hold, and the length of a departure list that has room for it, three numbers each.
+pub const MOST_HELD: usize = 8 * MOST_FRAMES;
+
+pub const LIST_ROOM: usize = 3 * MOST_HELD;
 
 pub fn is_tick(tick: u64) -> bool
     ensures { λ r. ⌜ r ≡ leb tick lastTick ⌝ }

@@ -1,11 +1,12 @@
 -- `replay::answers::put_departures` is safe and ends: it stays within the list. Assumes nothing.
-use Prim.Native.Nat.{_≤_, _-_}
+use Prim.Native.Nat.{_*_, _≤_, _-_}
 use borrow.Author.Needs.{needs}
+use Rattle.model.specs.Units.{mostFrames}
 use Rattle.replay.proofs.answers.put_departures.Statement.{statement}
 use Rattle.replay.proofs.answers.put_departures.Tie as tie
 
 abbrev Inv-loop : tie.InvT-loop
-Inv-loop room₀ list frames n line₀ i₀ t8 room line i = (i ≤ n) × (n ≤ 1560)
+Inv-loop room₀ list frames n line₀ i₀ t8 room line i = (i ≤ n) × (n ≤ 8 * mostFrames)
 
 abbrev μ-loop : tie.MeasureT-loop
 μ-loop room₀ list frames n line₀ i₀ t8 room line i = n - i
