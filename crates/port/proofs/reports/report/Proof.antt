@@ -3,18 +3,15 @@ use mathlib.Core.Path.{_≡_, sym, ap, _∙_}
 use Prim.Native.Nat.{ℕ, _<_}
 use lib.ListN.{length, getD}
 use Rattle.model.specs.Link.{VirtualLink}
-use Rattle.model.specs.Table.{tableRefusal}
 use Rattle.model.specs.Report.{frame}
 use Rattle.model.specs.Report.{admits as admitted}
-use Rattle.table.specs.View.{viewLink, blankFields, viewTable}
+use Rattle.table.specs.View.{viewLink, blankFields}
 use Rattle.port_scheduler.specs.declared.Frame.{Frame}
 use Rattle.port.specs.declared.Port.{Port}
 use Rattle.port.specs.View.{viewReport}
-use Rattle.port.specs.Charging.{chargeOf}
-use Rattle.table.proofs.PassingRecord.{counts-pass}
-use Rattle.table_lookup.proofs.Tables.{searchable}
+use Rattle.table_lookup.proofs.Tables.{Passing}
 use Rattle.port.proofs.Whole.{Whole, whole}
-use Rattle.port.proofs.Answers.{NotRefused, is-wait, is-frame, passed, ready, found-at, found-nowhere, line-in, length-most, priority-in, roomy, reached, waits, arrives-nowhere, is-filtered, is-policed, is-settled}
+use Rattle.port.proofs.Answers.{NotRefused, chargeOf, is-wait, is-frame, passed, ready, found-at, found-nowhere, line-in, length-most, priority-in, roomy, reached, waits, arrives-nowhere, charged-of-link, is-filtered, is-policed, is-settled}
 use borrow.Author.Needs.{needs}
 use Rattle.port.proofs.reports.report.Statement.{statement}
 use Rattle.port.proofs.reports.report.Tie as tie
@@ -49,7 +46,7 @@ module _ (c : tie.After-known-told) where
   on-line : line < 24
   on-line = line-in (start .args .p) (entire start) time line number len (length (start .args .list .now)) accepted
 
-  passes : tableRefusal (viewTable (start .args .p .table)) ≡ 0
+  passes : Passing (start .args .p .table)
   passes = passed (start .args .p) (entire start) (frame time line number len) (length (start .args .list .now)) accepted
 
 -- a frame of a link
@@ -64,7 +61,7 @@ module _ (c : tie.After-known-told2) where
   in-table = c .before .before .before .place-of .ensures .below place (c .before .i .given .1)
 
   in-array : place < 256
-  in-array = omega (arith, in-table, counts-pass (start framed .args .p .table) (passes framed) .links-most)
+  in-array = omega (arith, in-table, passes framed .links-most)
 
   in-queues : getD (start framed .args .p .table .links) place blankFields .priority < 8
   in-queues = priority-in (start framed .args .p) (entire (start framed)) (time framed) (line framed) (number framed) (len framed) (length (start framed .args .list .now)) (accepted framed) place in-table
@@ -89,7 +86,7 @@ module _ (c : tie.After-charge-in) where
   before-charge = reached (start (framed (found filtered)) .args .p) (entire (start (framed (found filtered)))) (time (framed (found filtered))) (c .before .before .before .before .before .before .before .before .before .before .before .before .before .before .before .before .before .before .before .before .before .before .before .advance .ensures) (line (framed (found filtered))) (number (framed (found filtered))) (len (framed (found filtered))) (place (found filtered))
 
   charges : c .charge-in .result ≡ chargeOf (link filtered) before-charge (place (found filtered)) (time (framed (found filtered)))
-  charges = c .charge-in .ensures (link filtered) (sym (c .before .before .bag .ensures)) (sym (c .before .u32-as-u64 .ensures .0))
+  charges = charged-of-link (link filtered) before-charge (place (found filtered)) (time (framed (found filtered))) (c .before .before .bag .ensures) (c .before .u32-as-u64 .ensures .0) (c .charge-in .ensures)
 
 tick-of-requires : tie.Need-tick-of-requires
 tick-of-requires c κs = search needs
@@ -111,7 +108,7 @@ array-write-line-ticks c =
 
 place-of-requires : tie.Need-place-of-requires
 place-of-requires c κs =
-    searchable (start (c .before .before) .args .p .table) (passes (c .before .before))
+    let k = passes (c .before .before) in (k .some-link, k .links-most, k .rising)
 
 enum-known-i : tie.Need-enum-known-i
 enum-known-i c = search needs
