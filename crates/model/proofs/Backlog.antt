@@ -16,7 +16,7 @@ use Rattle.model.specs.Machine.{Sender, idle, sending, Scheduler, queueO
 use Rattle.model.proofs.Search.{greatestTo-ge}
 use Rattle.model.proofs.Curves.{occupied-weight, greatest-within, greatest-none}
 use Rattle.model.proofs.Queues.{wireBytes, each-map, each-head, bytes-below, sizes-head, sizes-waits, up, up-one, up-two}
-use Rattle.model.proofs.BusyPeriod.{Under, Sends, Meets, Sound, part, Level}
+use Rattle.model.proofs.BusyPeriod.{Under, SendsInTime, Meets, Sound, part, Level}
 
 -- ---- no frame of the level stays as long as the hold
 pub level-hold : (p b hold : ℕ) (X Y : ℕ → ℕ) (st : Scheduler) → Level p b hold X Y st → (q : ℕ) → q ≤ p → Each (λ f. st .clock < f .arrival + hold) (queueOf (st .queues) q)
@@ -27,7 +27,7 @@ module _ (limit : ℕ → ℕ) (p b hold M : ℕ) (X Y : ℕ → ℕ) where
   -- what is held, with room for a frame of which all but one byte has left
   pub level-second : (st : Scheduler) → Sound limit st → limit p ≤ M → (l : Level p b hold X Y st) → 0 < wireBytes (queueOf (st .queues) p)
       → wireBytes (queueOf (st .queues) p) + (st .clock - l .s - b) + 1 ≤ X (l .s) + M
-  unfolding part Sends provided
+  unfolding part SendsInTime provided
   level-second st k h l n = go (st .sender) refl
     where
       m : Meets (limit p) (st .clock) (headOf (st .queues) p)

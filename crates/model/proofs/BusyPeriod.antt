@@ -27,9 +27,9 @@ pub record Under (c : ℕ) (qs : List (List Frame)) (q t : ℕ) : Type 0 where
   pub ends : c < t + headOf qs q .length
   pub arrived : headOf qs q .arrival ≤ t
 
-unfoldable pub Sends : ℕ → List (List Frame) → Sender → Type 0
-Sends c qs idle = Unit
-Sends c qs (sending q t) = (t < c) × Under c qs q t
+unfoldable pub SendsInTime : ℕ → List (List Frame) → Sender → Type 0
+SendsInTime c qs idle = Unit
+SendsInTime c qs (sending q t) = (t < c) × Under c qs q t
 
 -- a frame of queue q: no longer than limit q
 pub record Meets (limit c : ℕ) (f : Frame) : Type 0 where
@@ -40,7 +40,7 @@ pub record Meets (limit c : ℕ) (f : Frame) : Type 0 where
 pub record Sound (limit : ℕ → ℕ) (st : Scheduler) : Type 0 where
   pub eight : length (st .queues) ≡ 8
   pub frames : (q : ℕ) → Each (Meets (limit q) (st .clock)) (queueOf (st .queues) q)
-  pub sends : Sends (st .clock) (st .queues) (st .sender)
+  pub sends : SendsInTime (st .clock) (st .queues) (st .sender)
 
 -- ---- the level
 -- bytes of the frame being sent that have left, if it is of the level

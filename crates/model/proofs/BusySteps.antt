@@ -16,7 +16,7 @@ use Rattle.model.specs.Basics.{provided, Each}
 use Rattle.model.specs.Units.{occupied}
 use Rattle.model.specs.Machine.{Frame, Sender, idle, sending, Scheduler, at, blankFrame, queueOf, headOf, queuedLast, highestWaiting, startIfAny, started, freedIf, byteLeaves, tick, ticks, stored, bytes}
 use Rattle.model.proofs.Queues.{each-map, each-head, up, up-none, Waits, waiting-some, waiting-none}
-use Rattle.model.proofs.BusyPeriod.{Under, Sends, Meets, Sound, part, Before, Level, pop-length, pop-each, put-each, put-each-up, put-bytes, put-up, over, sent}
+use Rattle.model.proofs.BusyPeriod.{Under, SendsInTime, Meets, Sound, part, Before, Level, pop-length, pop-each, put-each, put-each-up, put-bytes, put-up, over, sent}
 
 meets-later : (limit c : ℕ) (f : Frame) → Meets limit c f → Meets limit (suc c) f
 meets-later limit c f m = record { positive = m .positive; short = m .short; past = omega (arith, m .past) }
@@ -31,7 +31,7 @@ begins limit c qs q e x =
 module _ (limit : ℕ → ℕ) where
   leaves-sound : (c : ℕ) (qs : List (List Frame)) (q t : ℕ) → length qs ≡ 8 → ((j : ℕ) → Each (Meets (limit j) c) (queueOf qs j)) → Under c qs q t
       → Sound limit (byteLeaves c qs (sending q t) .scheduler)
-  unfolding byteLeaves freedIf Sends
+  unfolding byteLeaves freedIf SendsInTime
   leaves-sound c qs q t n e m = go (eqb (t + headOf qs q .length) (suc c)) refl
     where
       go : (x : Bool) → eqb (t + headOf qs q .length) (suc c) ≡ x
@@ -51,7 +51,7 @@ module _ (limit : ℕ → ℕ) where
           }
 
   quiet-sound : (c : ℕ) (qs : List (List Frame)) → length qs ≡ 8 → ((j : ℕ) → Each (Meets (limit j) c) (queueOf qs j)) → Sound limit (at (suc c) qs idle)
-  unfolding Sends
+  unfolding SendsInTime
   quiet-sound c qs n e = record { eight = n; frames = λ j. each-map (meets-later (limit j) c) (e j); sends = tt }
 
   wakes-sound : (c : ℕ) (qs : List (List Frame)) → length qs ≡ 8 → ((j : ℕ) → Each (Meets (limit j) c) (queueOf qs j)) → (o : Option ℕ) → highestWaiting qs ≡ o
@@ -61,17 +61,17 @@ module _ (limit : ℕ → ℕ) where
   wakes-sound c qs n e (some q) x = leaves-sound c qs q c n e (begins limit c qs q e x)
 
   pub tick-sound : (st : Scheduler) → Sound limit st → Sound limit (tick st .scheduler)
-  unfolding tick started Sends
+  unfolding tick started SendsInTime
   tick-sound st k = go (st .sender) (k .sends)
     where
-      go : (z : Sender) → Sends (st .clock) (st .queues) z → Sound limit (byteLeaves (st .clock) (st .queues) (started (st .clock) (st .queues) z) .scheduler)
+      go : (z : Sender) → SendsInTime (st .clock) (st .queues) z → Sound limit (byteLeaves (st .clock) (st .queues) (started (st .clock) (st .queues) z) .scheduler)
       go idle m = wakes-sound (st .clock) (st .queues) (k .eight) (k .frames) (highestWaiting (st .queues)) refl
       go (sending q t) m = leaves-sound (st .clock) (st .queues) q t (k .eight) (k .frames) (m .1)
 
   -- ---- one level, one tick
   module _ (p b hold : ℕ) (X Y A : ℕ → ℕ) (lower : (q : ℕ) → p < q → limit q ≤ suc b) (g : b + A (hold - 1) ≤ hold) where
     pub tick-level : (st : Scheduler) → Sound limit st → ((s : ℕ) → s ≤ st .clock → X s ≤ A (st .clock - s)) → Level p b hold X Y st → Level p b hold X Y (tick st .scheduler)
-    unfolding tick started Sends part Before byteLeaves freedIf startIfAny
+    unfolding tick started SendsInTime part Before byteLeaves freedIf startIfAny
     tick-level st k a l = go (st .sender) refl
       where
         go : (z : Sender) → st .sender ≡ z → Level p b hold X Y (byteLeaves (st .clock) (st .queues) (started (st .clock) (st .queues) (st .sender)) .scheduler)
@@ -135,7 +135,7 @@ waits-put qs r q f k w = go (ℕ-discrete q r)
     go (no n) = rw (getD-set-other qs r q (queueOf qs r ++ (f ∷ [])) [] n) w
 
 pub stored-sound : (limit : ℕ → ℕ) (st : Scheduler) (r : ℕ) (f : Frame) → r < 8 → Meets (limit r) (st .clock) f → Sound limit st → Sound limit (stored st r f)
-unfolding Sends
+unfolding SendsInTime
 stored-sound limit st r f l m k =
     record {
       eight = rw length-set (k .eight);
@@ -146,7 +146,7 @@ stored-sound limit st r f l m k =
     in-range : r < length (st .queues)
     in-range = omega (arith, k .eight)
 
-    go : (z : Sender) → Sends (st .clock) (st .queues) z → Sends (st .clock) (queuedLast (st .queues) r f) z
+    go : (z : Sender) → SendsInTime (st .clock) (st .queues) z → SendsInTime (st .clock) (queuedLast (st .queues) r f) z
     go idle x = tt
     go (sending q t) x =
         let h : headOf (queuedLast (st .queues) r f) q ≡ headOf (st .queues) q = head-put (st .queues) r q f in-range (x .1 .waits) in (

@@ -18,13 +18,14 @@ use Rattle.model.specs.Link.{VirtualLink, bag, linkAt}
 use Rattle.model.specs.Table.{Table, sizeOf}
 use Rattle.model.specs.Bounds.{longest, blocking, orZero, hold, bound}
 use Rattle.model.specs.Machine.{Frame, idle, Scheduler, Departure, queueOf, queuedLast, advance, stored, bytes, held}
-use Rattle.model.specs.Report.{Account, Port, accountAt, markOf, fresh, Report, wait, frame, tickOf, Judged, charged, withAccount, storedIf, withLineTick, arrived, Call, Stepped}
+use Rattle.model.specs.Port.{Account, Port, accountAt, markOf, fresh}
+use Rattle.model.specs.Report.{Report, wait, frame, tickOf, Judged, storedIf, Call, Stepped, arrived}
 use Rattle.model.specs.Run.{Entry, run, accepted, frameIf, storedBy, policedBy, droppedBy, passedBy, throughBy, without, withoutAll, andLast, heldFrames, isPriority, hasPriority, only, heldOf, mostHeld, andTick, ticksOf, KeepBagAndJitter, LinkKeeps, Always, start, then}
 use Rattle.model.specs.Promises.{DemandThree}
 use Rattle.model.proofs.Holds.{hold-is, HasBounds, has-bounds}
 use Rattle.model.proofs.Curves.{occupied-weight}
-use Rattle.model.proofs.Passed.{Passed, passedFrame}
-use Rattle.model.proofs.Gate.{numbers-apart, gateOf, after-set, full-at}
+use Rattle.model.proofs.Passed.{Passed}
+use Rattle.model.proofs.Gate.{numbers-apart, renewed, reduced, after-set, full-at}
 use Rattle.model.proofs.Keeping.{keeping-before, Paid, paid-start, paid-covers, paid-charged}
 use Rattle.model.proofs.ValidTable.{Valid, valid}
 use Rattle.model.proofs.Queues.{up-none}
@@ -33,7 +34,7 @@ use Rattle.model.proofs.BusySteps.{stored-sound}
 use Rattle.model.proofs.Backlog.{level-hold}
 use Rattle.model.proofs.QueueSteps.{advance-clock}
 use Rattle.model.proofs.Ledger.{Booked, booked-put, ticks-booked}
-use Rattle.model.proofs.Stepping.{Admitted, renewed, priorityAt, Judgement, filters, polices, drops, stores, Timely, Arrives, movedTo, freedBy, Stepping, refuses, waits, frames, stepping}
+use Rattle.model.proofs.Stepping.{Admitted, policedPort, chargedPort, priorityAt, Judgement, filters, polices, drops, stores, Timely, Arrives, movedTo, reached, freedBy, Stepping, refuses, waits, frames, stepping}
 use Rattle.model.proofs.Log.{entryOf, taken, declined, departures-taken, departures-declined, frame-declined, not-accepted, andPassed, passedFrames}
 use Rattle.model.proofs.Invariant.{Ordered, Invariant, moved-ordered, meets-its-queue, grown, step-kept, fresh-kept, empty-queues, no-marks}
 use Rattle.model.proofs.Levels.{upPassed, ownPassed, Levels, held-bound, advance-levels, lost-levels, stored-levels}
@@ -86,7 +87,7 @@ keeping-past v e log k = go (throughBy e) k
 -- ---- what is kept beside the invariant
 
 -- the clauses of demand 3 about what came before
-pub record Said (t : Table) (log : List Entry) : Type 0 where
+pub record SaidSoFar (t : Table) (log : List Entry) : Type 0 where
   pub within : (p : ℕ) → p < 8 → mostHeld t p log ≤ bound t p
   pub in-time : (p : ℕ) → p < 8 → Always (λ e log. accepted (e .answer) ≡ true → Each (λ f. tickOf (e .report) < f .arrival + hold t p) (heldOf t p (e ∷ log))) log
   pub no-drop : (p : ℕ) → p < 8 → bound t p ≤ sizeOf t p → Always (λ e log. (f : Frame) → droppedBy e ≡ some f → hasPriority t p f ≡ true → ⊥) log
@@ -98,13 +99,13 @@ abbrev pub AllPaid : Table → List Account → List Entry → Type 0
 AllPaid t accounts log = (i : ℕ) → i < length (t .links) → LinkKeeps (linkAt (t .links) i) log
     → Paid (linkAt (t .links) i) (ticksOf throughBy (linkAt (t .links) i .number) log) (accountAt accounts i)
 
-pub record Kept (t : Table) (s : Port) (log : List Entry) : Type 0 where
+pub record DemandKept (t : Table) (s : Port) (log : List Entry) : Type 0 where
   pub invariant : Invariant t s log
   pub levels : Levels t (passedFrames t log) (s .scheduler)
   pub booked : Booked t (heldFrames log) (s .scheduler .queues)
   pub marked : (p : ℕ) → p < 8 → markOf s p ≡ mostHeld t p log
-  pub paid : AllPaid t (s .accounts) log
-  pub said : Said t log
+  pub paid : AllPaid t (s .gate .accounts) log
+  pub said : SaidSoFar t log
 
 -- what a buffer holds is at most the most that it has held
 held-most : (t : Table) (log : List Entry) (queues : List (List Frame)) → Booked t (heldFrames log) queues → (p : ℕ) → p < 8 → held (queueOf queues p) ≤ mostHeld t p log
@@ -119,8 +120,8 @@ module _ (t : Table) (log : List Entry) (e : Entry) (s : Port) (i' : Invariant t
       → (accepted (e .answer) ≡ true → tickOf (e .report) ≡ s .scheduler .clock)
       → ((p : ℕ) → p < 8 → bound t p ≤ sizeOf t p → (f : Frame) → droppedBy e ≡ some f → hasPriority t p f ≡ true → ⊥)
       → ((i : ℕ) → i < length (t .links) → LinkKeeps (linkAt (t .links) i) (e ∷ log) → (f : Frame) → policedBy e ≡ some f → f .number ≡ linkAt (t .links) i .number → ⊥)
-      → AllPaid t (s .accounts) (e ∷ log)
-      → Said t log → Kept t s (e ∷ log)
+      → AllPaid t (s .gate .accounts) (e ∷ log)
+      → SaidSoFar t log → DemandKept t s (e ∷ log)
   unfolding mostHeld heldOf
   finish levels books mark time drop police paid said =
       record {
@@ -132,7 +133,7 @@ module _ (t : Table) (log : List Entry) (e : Entry) (s : Port) (i' : Invariant t
         said =
             record {
               within =
-                  λ p m. rw (books .books p m) (omega (arith, said .within p m, held-bound t (passedFrames t (e ∷ log)) (s .scheduler) (gateOf s) (i' .ordered .sound) (i' .good) levels p m));
+                  λ p m. rw (books .books p m) (omega (arith, said .within p m, held-bound t (passedFrames t (e ∷ log)) (s .scheduler) (s .gate) (i' .ordered .sound) (i' .good) levels p m));
               in-time =
                   λ p m.
                   then {e = e} {log = log}
@@ -146,8 +147,8 @@ module _ (t : Table) (log : List Entry) (e : Entry) (s : Port) (i' : Invariant t
       }
 
 -- ---- a report
-module _ (t : Table) (b : HasBounds t) (v : Valid t) (s : Port) (log : List Entry) (k : Kept t s log) (list : List ℕ) where
-  refused-kept : (r : Report) (n : ℕ) → Invariant t s (declined r n list ∷ log) → Kept t s (declined r n list ∷ log)
+module _ (t : Table) (b : HasBounds t) (v : Valid t) (s : Port) (log : List Entry) (k : DemandKept t s log) (list : List ℕ) where
+  refused-kept : (r : Report) (n : ℕ) → Invariant t s (declined r n list ∷ log) → DemandKept t s (declined r n list ∷ log)
   unfolding heldFrames andLast withoutAll storedBy droppedBy policedBy throughBy passedFrames passedBy andPassed
   refused-kept r n i' =
       finish t log (declined r n list) s i'
@@ -171,7 +172,7 @@ module _ (t : Table) (b : HasBounds t) (v : Valid t) (s : Port) (log : List Entr
     there = advance-clock time (s .scheduler) (timely .from)
 
     levels : Levels t (passedFrames t log) st
-    levels = advance-levels t b (passedFrames t log) (s .scheduler) (gateOf s) time (k .invariant .ordered .sound) (k .invariant .good) (k .levels)
+    levels = advance-levels t b (passedFrames t log) (s .scheduler) (s .gate) time (k .invariant .ordered .sound) (k .invariant .good) (k .levels)
 
     books : Booked t (withoutAll out (heldFrames log)) (st .queues)
     unfolding advance
@@ -188,7 +189,7 @@ module _ (t : Table) (b : HasBounds t) (v : Valid t) (s : Port) (log : List Entr
     unfolding heldFrames
     books-taken r verdict queues x = rw (departures-taken r verdict out list) x
 
-    waited-kept : Invariant t (movedTo s time) (taken (wait time) 0 out list ∷ log) → Kept t (movedTo s time) (taken (wait time) 0 out list ∷ log)
+    waited-kept : Invariant t (movedTo s time) (taken (wait time) 0 out list ∷ log) → DemandKept t (movedTo s time) (taken (wait time) 0 out list ∷ log)
     unfolding andLast storedBy droppedBy policedBy throughBy frameIf passedFrames passedBy andPassed tickOf
     waited-kept i' =
         finish t log (taken (wait time) 0 out list) (movedTo s time) i' levels
@@ -208,9 +209,9 @@ module _ (t : Table) (b : HasBounds t) (v : Valid t) (s : Port) (log : List Entr
       this verdict = taken (frame time line number len) verdict out list
 
       abbrev port : Port
-      port = withLineTick (movedTo s time) line time
+      port = reached s time line
 
-      filtered-kept : Invariant t port (this 1 ∷ log) → Kept t port (this 1 ∷ log)
+      filtered-kept : Invariant t port (this 1 ∷ log) → DemandKept t port (this 1 ∷ log)
       unfolding andLast storedBy droppedBy policedBy throughBy frameIf accepted passedFrames passedBy andPassed tickOf
       filtered-kept i' =
           finish t log (this 1) port i' levels
@@ -229,7 +230,7 @@ module _ (t : Table) (b : HasBounds t) (v : Valid t) (s : Port) (log : List Entr
         abbrev known : List ℕ
         known = ticksOf throughBy (vl .number) log
 
-        ticked : accountAt (s .accounts) i .tick ≤ time
+        ticked : accountAt (s .gate .accounts) i .tick ≤ time
         ticked = omega (arith, k .invariant .good occupied occupied-weight (λ _. true) .account-past i (a .at-place), timely .from)
 
         -- another link's number
@@ -238,29 +239,29 @@ module _ (t : Table) (b : HasBounds t) (v : Valid t) (s : Port) (log : List Entr
 
         -- the accounts after a frame that the filter let through: the link's own is set, the others stay
         paid-set : (e : Entry) → throughBy e ≡ some it → (account : Account)
-            → (KeepBagAndJitter vl (known ++ (time ∷ [])) → Paid vl (known ++ (time ∷ [])) account) → AllPaid t (set (s .accounts) i account) (e ∷ log)
+            → (KeepBagAndJitter vl (known ++ (time ∷ [])) → Paid vl (known ++ (time ∷ [])) account) → AllPaid t (set (s .gate .accounts) i account) (e ∷ log)
         paid-set e x account own =
             after-set (λ j account. LinkKeeps (linkAt (t .links) j) (e ∷ log) → Paid (linkAt (t .links) j) (ticksOf throughBy (linkAt (t .links) j .number) (e ∷ log)) account)
-            (length (t .links)) (s .accounts) (record { credit = 0; tick = 0 }) i account (k .invariant .good occupied occupied-weight (λ _. true) .accounts-length) (a .at-place)
+            (length (t .links)) (s .gate .accounts) (record { credit = 0; tick = 0 }) i account (k .invariant .good occupied occupied-weight (λ _. true) .accounts-length) (a .at-place)
             (λ keeps. let q = ticks-same throughBy (vl .number) e log it x (sym (a .named)) in rw q (own (rw q at keeps)))
             (λ j l n keeps. let q = ticks-other throughBy (linkAt (t .links) j .number) e log it x (another j l n) in rw q (k .paid j l (rw q at keeps)))
 
         -- ---- policed
-        broken : renewed t s i time .credit < bag vl → KeepBagAndJitter vl (known ++ (time ∷ [])) → ⊥
+        broken : renewed (t .links) (s .gate) i time .credit < bag vl → KeepBagAndJitter vl (known ++ (time ∷ [])) → ⊥
         broken c keeps =
-            omega (arith, paid-covers vl known (accountAt (s .accounts) i) time keeps ticked (k .paid i (a .at-place) (keeping-before vl known time keeps)))
+            omega (arith, paid-covers vl known (accountAt (s .gate .accounts) i) time keeps ticked (k .paid i (a .at-place) (keeping-before vl known time keeps)))
 
-        policed-kept : renewed t s i time .credit < bag vl → Invariant t (withAccount port i (renewed t s i time)) (this 2 ∷ log)
-            → Kept t (withAccount port i (renewed t s i time)) (this 2 ∷ log)
+        policed-kept : renewed (t .links) (s .gate) i time .credit < bag vl → Invariant t (policedPort t port i time) (this 2 ∷ log)
+            → DemandKept t (policedPort t port i time) (this 2 ∷ log)
         unfolding andLast storedBy droppedBy policedBy throughBy frameIf accepted passedFrames passedBy andPassed tickOf
         policed-kept c i' =
-            finish t log (this 2) (withAccount port i (renewed t s i time)) i' levels
+            finish t log (this 2) (policedPort t port i time) i' levels
             (books-taken (frame time line number len) 2 (st .queues) books)
             (λ p m. omega (arith, k .marked p m, less p m))
             (λ _. sym there)
             (λ p m n f x. absurd (let z : _≡_ {A = ℕ} 0 1 = cc in omega arith))
             (λ j l keeps f x y. sentenced j l keeps (ℕ-discrete j i) (let w : it ≡ f = cc in ap (λ (g : Frame). g .number) w ∙ y))
-            (paid-set (this 2) refl (renewed t s i time) (λ keeps. absurd (broken c keeps)))
+            (paid-set (this 2) refl (renewed (t .links) (s .gate) i time) (λ keeps. absurd (broken c keeps)))
             (k .said)
           where
             sentenced : (j : ℕ) → j < length (t .links) → LinkKeeps (linkAt (t .links) j) (this 2 ∷ log) → Dec (j ≡ i) → number ≡ linkAt (t .links) j .number → ⊥
@@ -308,18 +309,18 @@ module _ (t : Table) (b : HasBounds t) (v : Valid t) (s : Port) (log : List Entr
         grows = grown t v (movedTo s time) ordered time line number len i there (arrives .long) a
 
         abbrev fee : Account
-        fee = charged vl (renewed t s i time)
+        fee = reduced (t .links) (s .gate) i time
 
-        paid-passed : bag vl ≤ renewed t s i time .credit → (e : Entry) → throughBy e ≡ some it → AllPaid t (set (s .accounts) i fee) (e ∷ log)
+        paid-passed : bag vl ≤ renewed (t .links) (s .gate) i time .credit → (e : Entry) → throughBy e ≡ some it → AllPaid t (set (s .gate .accounts) i fee) (e ∷ log)
         paid-passed c e x =
             paid-set e x fee
-            (λ keeps. paid-charged vl known (accountAt (s .accounts) i) time ticked c (k .paid i (a .at-place) (keeping-before vl known time keeps)))
+            (λ keeps. paid-charged vl known (accountAt (s .gate .accounts) i) time ticked c (k .paid i (a .at-place) (keeping-before vl known time keeps)))
 
-        dropped-kept : bag vl ≤ renewed t s i time .credit → sizeOf t p < held (queueOf (st .queues) p) + occupied len
-            → Invariant t (withAccount port i fee) (this 3 ∷ log) → Kept t (withAccount port i fee) (this 3 ∷ log)
+        dropped-kept : bag vl ≤ renewed (t .links) (s .gate) i time .credit → sizeOf t p < held (queueOf (st .queues) p) + occupied len
+            → Invariant t (chargedPort t port i time) (this 3 ∷ log) → DemandKept t (chargedPort t port i time) (this 3 ∷ log)
         unfolding andLast storedBy droppedBy policedBy throughBy frameIf accepted passedFrames passedBy tickOf
         dropped-kept c full i' =
-            finish t log (this 3) (withAccount port i fee) i' without-it
+            finish t log (this 3) (chargedPort t port i time) i' without-it
             (books-taken (frame time line number len) 3 (st .queues) books)
             (λ q m. omega (arith, k .marked q m, less q m))
             (λ _. sym there)
@@ -333,13 +334,13 @@ module _ (t : Table) (b : HasBounds t) (v : Valid t) (s : Port) (log : List Entr
             lost q m n o =
                 let e : p ≡ q = p-is q o in
                 let n' : bound t p ≤ sizeOf t p = rw e n in
-                omega (arith, grows, held-bound t passing (stored st p it) (gateOf (withAccount port i fee)) sound-with-it (i' .good) with-it p p-below)
+                omega (arith, grows, held-bound t passing (stored st p it) (chargedPort t port i time .gate) sound-with-it (i' .good) with-it p p-below)
 
-        stored-kept : bag vl ≤ renewed t s i time .credit → Invariant t (storedIf true (withAccount port i fee) p it .port) (this 0 ∷ log)
-            → Kept t (storedIf true (withAccount port i fee) p it .port) (this 0 ∷ log)
+        stored-kept : bag vl ≤ renewed (t .links) (s .gate) i time .credit → Invariant t (storedIf true (chargedPort t port i time) p it .port) (this 0 ∷ log)
+            → DemandKept t (storedIf true (chargedPort t port i time) p it .port) (this 0 ∷ log)
         unfolding andLast storedBy droppedBy policedBy throughBy frameIf accepted passedFrames passedBy tickOf storedIf
         stored-kept c i' =
-            finish t log (this 0) (storedIf true (withAccount port i fee) p it .port) i' with-it
+            finish t log (this 0) (storedIf true (chargedPort t port i time) p it .port) i' with-it
             (books-taken (frame time line number len) 0 (queuedLast (st .queues) p it) (booked-put t (withoutAll out (heldFrames log)) (st .queues) p it p-in of-p books))
             (λ q m. marks-are q m (ℕ-discrete q p))
             (λ _. sym there)
@@ -349,7 +350,7 @@ module _ (t : Table) (b : HasBounds t) (v : Valid t) (s : Port) (log : List Entr
             (k .said)
           where
             after : Port
-            after = storedIf true (withAccount port i fee) p it .port
+            after = storedIf true (chargedPort t port i time) p it .port
 
             marks-in : p < length (s .marks)
             marks-in = omega (arith, p-below, ordered .eight)
@@ -359,20 +360,20 @@ module _ (t : Table) (b : HasBounds t) (v : Valid t) (s : Port) (log : List Entr
             marks-are q m (no n) =
                 rw (getD-set-other (s .marks), n, getD-set-other (st .queues) p q (queueOf (st .queues) p ++ (it ∷ [])) [] n) (omega (arith, k .marked q m, less q m))
 
-      judged-kept : {j : Judged} → Judgement t port time line number len j → Invariant t (j .port) (this (j .verdict) ∷ log) → Kept t (j .port) (this (j .verdict) ∷ log)
+      judged-kept : {j : Judged} → Judgement t port time line number len j → Invariant t (j .port) (this (j .verdict) ∷ log) → DemandKept t (j .port) (this (j .verdict) ∷ log)
       unfolding storedIf
       judged-kept filters i' = filtered-kept i'
       judged-kept (polices i a c) i' = policed-kept i a c i'
       judged-kept (drops i a c full) i' = dropped-kept i a c full i'
       judged-kept (stores i a c room) i' = stored-kept i a c i'
 
-  kept-after : {r : Report} {x : Stepped} → Stepping t s list r x → Invariant t (x .port) (entryOf r x ∷ log) → Kept t (x .port) (entryOf r x ∷ log)
+  kept-after : {r : Report} {x : Stepped} → Stepping t s list r x → Invariant t (x .port) (entryOf r x ∷ log) → DemandKept t (x .port) (entryOf r x ∷ log)
   kept-after (refuses {r = r} n) i' = refused-kept r n i'
   kept-after (waits time timely) i' = waited-kept time timely i'
   kept-after (frames time line number len timely arrives j) i' = judged-kept time timely line number len arrives j i'
 
 -- ---- the fresh port
-fresh-demand : (t : Table) → HasBounds t → Kept t (fresh t) []
+fresh-demand : (t : Table) → HasBounds t → DemandKept t (fresh t) []
 unfolding fresh heldFrames only mostHeld ticksOf passedFrames Before
 fresh-demand t b =
     record {
@@ -394,7 +395,7 @@ fresh-demand t b =
     }
 
 -- ---- every list of reports
-pub run-demand : (t : Table) → HasBounds t → (calls : List Call) → Kept t (run t calls .port) (run t calls .log)
+pub run-demand : (t : Table) → HasBounds t → (calls : List Call) → DemandKept t (run t calls .port) (run t calls .log)
 unfolding run
 run-demand t b [] = fresh-demand t b
 run-demand t b (c ∷ calls) =

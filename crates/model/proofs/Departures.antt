@@ -16,7 +16,7 @@ use Rattle.model.specs.Machine.{Frame, Sender, idle, sending, Scheduler,
 use Rattle.model.specs.Run.{without, withoutAll, hasPriority, only}
 use Rattle.model.specs.Promises.{oldest, Leaving, Spaced, over, next}
 use Rattle.model.proofs.Queues.{each-head}
-use Rattle.model.proofs.BusyPeriod.{Under, Sends, Meets, Sound}
+use Rattle.model.proofs.BusyPeriod.{Under, SendsInTime, Meets, Sound}
 use Rattle.model.proofs.BusySteps.{begins, tick-sound}
 use Rattle.model.proofs.Ledger.{Booked, only-head, same-number, tick-booked}
 
@@ -77,10 +77,10 @@ module _ (t : Table) (l : List Frame) where
   wakes-leaving limit c qs (some q) x n m b e = leaves-leaving c qs q c n (begins limit c qs q m x) b e
 
   pub tick-leaving : (limit : ℕ → ℕ) (st : Scheduler) → Sound limit st → Booked t l (st .queues) → InTime st → Leaving t l (tick st .departures)
-  unfolding tick started Sends
+  unfolding tick started SendsInTime
   tick-leaving limit st k b e = go (st .sender) (k .sends)
     where
-      go : (z : Sender) → Sends (st .clock) (st .queues) z → Leaving t l (byteLeaves (st .clock) (st .queues) (started (st .clock) (st .queues) z) .departures)
+      go : (z : Sender) → SendsInTime (st .clock) (st .queues) z → Leaving t l (byteLeaves (st .clock) (st .queues) (started (st .clock) (st .queues) z) .departures)
       go idle m = wakes-leaving limit (st .clock) (st .queues) (highestWaiting (st .queues)) refl (k .eight) (k .frames) b e
       go (sending q s) m = leaves-leaving (st .clock) (st .queues) q s (k .eight) (m .1) b e
 
@@ -100,34 +100,34 @@ unfoldable pub FreeFrom : ℕ → ℕ → Sender → Type 0
 FreeFrom last c idle = last ≤ c
 FreeFrom last c (sending q s) = last ≤ s
 
-pub record Apart (last : ℕ) (r : Advance) : Type 0 where
+pub record Spacing (last : ℕ) (r : Advance) : Type 0 where
   pub final : ℕ
   pub spaced : (ds : List Departure) → Spaced final ds → Spaced last (r .departures ++ ds)
   pub free : FreeFrom final (r .scheduler .clock) (r .scheduler .sender)
 
-leaves-apart : (last c : ℕ) (qs : List (List Frame)) (q s : ℕ) → last ≤ s → Under c qs q s → Apart last (byteLeaves c qs (sending q s))
+leaves-apart : (last c : ℕ) (qs : List (List Frame)) (q s : ℕ) → last ≤ s → Under c qs q s → Spacing last (byteLeaves c qs (sending q s))
 unfolding byteLeaves freedIf FreeFrom
 leaves-apart last c qs q s l u = go (eqb (s + headOf qs q .length) (suc c)) refl
   where
-    go : (x : Bool) → eqb (s + headOf qs q .length) (suc c) ≡ x → Apart last (freedIf x c qs q s)
+    go : (x : Bool) → eqb (s + headOf qs q .length) (suc c) ≡ x → Spacing last (freedIf x c qs q s)
     go true x =
         record { final = suc c; spaced = λ ds y. next {last = last} {d = departure (headOf qs q) (suc c)} (omega (arith, eqb-true (s + headOf qs q .length) (suc c) x)) y; free = le-refl (suc c) }
     go false x = record { final = last; spaced = λ ds y. y; free = l }
 
-wakes-apart : (limit : ℕ → ℕ) (last c : ℕ) (qs : List (List Frame)) (o : Option ℕ) → highestWaiting qs ≡ o → ((j : ℕ) → Each (Meets (limit j) c) (queueOf qs j)) → last ≤ c → Apart last (byteLeaves c qs (startIfAny c o))
+wakes-apart : (limit : ℕ → ℕ) (last c : ℕ) (qs : List (List Frame)) (o : Option ℕ) → highestWaiting qs ≡ o → ((j : ℕ) → Each (Meets (limit j) c) (queueOf qs j)) → last ≤ c → Spacing last (byteLeaves c qs (startIfAny c o))
 unfolding byteLeaves freedIf startIfAny FreeFrom
 wakes-apart limit last c qs none x m l = record { final = last; spaced = λ ds y. y; free = omega arith }
 wakes-apart limit last c qs (some q) x m l = leaves-apart last c qs q c l (begins limit c qs q m x)
 
-pub tick-apart : (limit : ℕ → ℕ) (last : ℕ) (st : Scheduler) → Sound limit st → FreeFrom last (st .clock) (st .sender) → Apart last (tick st)
-unfolding tick started Sends FreeFrom
+pub tick-apart : (limit : ℕ → ℕ) (last : ℕ) (st : Scheduler) → Sound limit st → FreeFrom last (st .clock) (st .sender) → Spacing last (tick st)
+unfolding tick started SendsInTime FreeFrom
 tick-apart limit last st k f = go (st .sender) (k .sends) f
   where
-    go : (z : Sender) → Sends (st .clock) (st .queues) z → FreeFrom last (st .clock) z → Apart last (byteLeaves (st .clock) (st .queues) (started (st .clock) (st .queues) z))
+    go : (z : Sender) → SendsInTime (st .clock) (st .queues) z → FreeFrom last (st .clock) z → Spacing last (byteLeaves (st .clock) (st .queues) (started (st .clock) (st .queues) z))
     go idle m f = wakes-apart limit last (st .clock) (st .queues) (highestWaiting (st .queues)) refl (k .frames) f
     go (sending q s) m f = leaves-apart last (st .clock) (st .queues) q s f (m .1)
 
-pub ticks-apart : (limit : ℕ → ℕ) (k last : ℕ) (st : Scheduler) → Sound limit st → FreeFrom last (st .clock) (st .sender) → Apart last (ticks k st)
+pub ticks-apart : (limit : ℕ → ℕ) (k last : ℕ) (st : Scheduler) → Sound limit st → FreeFrom last (st .clock) (st .sender) → Spacing last (ticks k st)
 unfolding ticks
 ticks-apart limit zero last st x f = record { final = last; spaced = λ ds y. y; free = f }
 ticks-apart limit (suc k) last st x f =

@@ -16,7 +16,9 @@ use Rattle.model.specs.Bounds.{ofPriority, upTo, beyond, ownArrivals, up
 use Rattle.model.specs.TableFile.{tableBytes}
 use Rattle.model.specs.Sheet.{text, sheet}
 use Rattle.model.specs.Machine.{highestWaiting, startIfAny, started, freedIf, byteLeaves, tick, ticks, advance, bytes, framesHeld}
-use Rattle.model.specs.Report.{fresh, namesLink, framesFit, senderFit, fit, tickOf, frameChecks, reportChecks, reportRefusal, admits, admitted, replenished, charged, hasRoom, storedIf, passedIf, judge, judgeReport, bytesFreed, acceptedOr, step}
+use Rattle.model.specs.Port.{fresh}
+use Rattle.model.specs.Fitness.{namesLink, framesFit, senderFit, fit}
+use Rattle.model.specs.Report.{tickOf, frameChecks, reportChecks, allChecks, reportRefusal, admits, admitted, replenished, charged, checkedIf, police, policeAt, hasRoom, storedIf, store, passedIf, judge, judgeReport, bytesFreed, acceptedOr, step}
 use Rattle.model.specs.Run.{run}
 use Rattle.model.specs.Examples.{Outcome, Example, gives-bound, gives-hold, lacks-bounds, gives-answers, gives-bags, gives-sheet, outcomes, Correct}
 use Rattle.model.specs.Examples as example
@@ -91,7 +93,7 @@ settled (gives-sheet t printed) e = numbers-equal (sheet (tableBytes t)) (text p
 
 -- names for all that an example computes with
 the-port : ℕ
-unfolding computes sameOutcomes sameOutcome sameNumbers outcomes run step acceptedOr judgeReport judge passedIf storedIf hasRoom charged replenished admitted admits reportRefusal reportChecks frameChecks tickOf fit senderFit framesFit namesLink fresh bytesFreed advance ticks tick byteLeaves freedIf started startIfAny highestWaiting bytes framesHeld placeOf bagOf further firstMet allHold allTo tableRefusal tableChecks allAtMost linksChecks notAbove fieldsInRange countsInRange occupied flatMap
+unfolding computes sameOutcomes sameOutcome sameNumbers outcomes run step acceptedOr judgeReport judge policeAt police checkedIf passedIf store storedIf hasRoom charged replenished admitted admits reportRefusal allChecks reportChecks frameChecks tickOf fit senderFit framesFit namesLink fresh bytesFreed advance ticks tick byteLeaves freedIf started startIfAny highestWaiting bytes framesHeld placeOf bagOf further firstMet allHold allTo tableRefusal tableChecks allAtMost linksChecks notAbove fieldsInRange countsInRange occupied flatMap
 the-port = 0
 
 the-formulas : ℕ

@@ -8,29 +8,32 @@ use native.Mathlib.Omega.{arith}
 use lib.Dec.{eqb, leb, ltb}
 use borrow.Author.Tests.{eq-eqb, eqb-true, le-leb, leb-true, lt-ltb, ltb-true}
 use lib.ListN.{length, getD, List·getD-eq-default}
-use Rattle.model.specs.Basics.{Each, done, check}
+use Rattle.model.specs.Basics.{Each, done}
 use Rattle.model.specs.Units.{lastTick, occupied, mostFrames}
 use Rattle.model.specs.Link.{bag, linkAt}
 use Rattle.model.specs.Table.{Table, sizeOf, tableRefusal}
 use Rattle.model.specs.Bounds.{upTo, longest}
-use Rattle.model.specs.Machine.{Frame, Sender, idle, sending, queueOf, headOf, advance, ticks, held}
-use Rattle.model.specs.Report.{Port, accountAt, markOf, lineTick, framesFit, senderFit, fit, Report, wait, frame, tickOf, reportChecks, frameChecks, roomCheck, reportRefusal, Call, acceptedOr, step}
+use Rattle.model.specs.Machine.{Frame, Sender, idle, sending, queueOf, headOf, advance, held}
+use Rattle.model.specs.Port.{Gate, Port, accountAt, lineTick, markOf}
+use Rattle.model.specs.Fitness.{framesFit, senderFit, fit}
+use Rattle.model.specs.Report.{reportRefusal, Call, acceptedOr, step}
 use Rattle.model.specs.Run.{Entry, run, Always, start, then}
 use Rattle.model.specs.Promises.{NeverUnfit, NoneAppears}
-use Rattle.model.proofs.Checks.{all-true, true-all, all-to, to-all, first-later, Apart, first-apart}
+use Rattle.model.proofs.Checks.{all-true, true-all, all-to, to-all}
 use Rattle.model.proofs.Curves.{occupied-weight}
 use Rattle.model.proofs.TokenBucket.{credit-top}
-use Rattle.model.proofs.Gate.{gateOf, Good}
+use Rattle.model.proofs.Gate.{Good}
 use Rattle.model.proofs.ValidTable.{Valid, valid}
-use Rattle.model.proofs.BusyPeriod.{Sends, Meets, Sound}
+use Rattle.model.proofs.BusyPeriod.{SendsInTime, Meets, Sound}
 use Rattle.model.proofs.FramesFreed.{ticks-count}
+use Rattle.model.proofs.Refusals.{refusal-apart}
 use Rattle.model.proofs.Lined.{Lined, lined-fit, fit-lined, lined-count, lined-meets}
 use Rattle.model.proofs.Log.{passedFrames}
-use Rattle.model.proofs.Invariant.{Invariant, run-kept}
+use Rattle.model.proofs.Invariant.{Ordered, Invariant, run-kept}
 
 -- ---- what is kept is fit
-sends-fit : (clock : ℕ) (queues : List (List Frame)) → length queues ≡ 8 → (z : Sender) → Sends clock queues z → senderFit clock queues z ≡ true
-unfolding Sends senderFit
+sends-fit : (clock : ℕ) (queues : List (List Frame)) → length queues ≡ 8 → (z : Sender) → SendsInTime clock queues z → senderFit clock queues z ≡ true
+unfolding SendsInTime senderFit
 sends-fit clock queues n idle m = refl
 sends-fit clock queues n (sending q s) m =
     true-all _ (
@@ -44,46 +47,49 @@ sends-fit clock queues n (sending q s) m =
       ),
     )
 
-module _ (t : Table) (passes : tableRefusal t ≡ 0) (s : Port) (log : List Entry) (k : Invariant t s log) where
-  good : Good occupied (upTo 0) (t .lines) (t .links) (passedFrames t log) (s .scheduler .clock) (gateOf s)
-  good = k .good occupied occupied-weight (upTo 0)
+-- what fitness asks of the gate: no tick ahead of the clock, no credit above B + J
+pub record FitGate (t : Table) (clock : ℕ) (g : Gate) : Type 0 where
+  pub lines-past : (ℓ : ℕ) → ℓ < t .lines → lineTick (g .lineTicks) ℓ ≤ clock
+  pub accounts-past : (i : ℕ) → i < length (t .links) → accountAt (g .accounts) i .tick ≤ clock
+  pub accounts-top : (i : ℕ) → i < length (t .links) → accountAt (g .accounts) i .credit ≤ bag (linkAt (t .links) i) + linkAt (t .links) i .jitter
 
+module _ (t : Table) (passes : tableRefusal t ≡ 0) (s : Port) (k : Ordered t s) (g : FitGate t (s .scheduler .clock) (s .gate)) where
   few : (p : ℕ) → p < 8 → length (queueOf (s .scheduler .queues) p) ≤ mostFrames
   unfolding occupied
   few p l =
       omega (
         arith,
-        lined-count t p (s .scheduler .clock) 0 (queueOf (s .scheduler .queues) p) (valid t passes) (k .ordered .lined p),
-        k .ordered .below p l,
-        k .ordered .within p l,
+        lined-count t p (s .scheduler .clock) 0 (queueOf (s .scheduler .queues) p) (valid t passes) (k .lined p),
+        k .below p l,
+        k .within p l,
         valid t passes .sizes-most p,
       )
 
-  pub kept-fit : fit t s ≡ true
+  -- a port in order, its gate fit, is fit
+  pub ordered-fit : fit t s ≡ true
   unfolding fit
-  kept-fit =
+  ordered-fit =
       true-all _ (
         eq-eqb (tableRefusal t) 0 passes,
         (
-          le-leb (s .scheduler .clock) lastTick (k .ordered .early),
+          le-leb (s .scheduler .clock) lastTick (k .early),
           (
             to-all _ 8 (λ p l. le-leb (length (queueOf (s .scheduler .queues) p)) mostFrames (few p l)),
             (
-              to-all _ 8 (λ p l. lined-fit t p (s .scheduler .clock) 0 (queueOf (s .scheduler .queues) p) (k .ordered .lined p)),
+              to-all _ 8 (λ p l. lined-fit t p (s .scheduler .clock) 0 (queueOf (s .scheduler .queues) p) (k .lined p)),
               (
-                to-all _ 8 (λ p l. le-leb (held (queueOf (s .scheduler .queues) p)) (markOf s p) (k .ordered .below p l)),
+                to-all _ 8 (λ p l. le-leb (held (queueOf (s .scheduler .queues) p)) (markOf s p) (k .below p l)),
                 (
-                  to-all _ 8 (λ p l. le-leb (markOf s p) (sizeOf t p) (k .ordered .within p l)),
+                  to-all _ 8 (λ p l. le-leb (markOf s p) (sizeOf t p) (k .within p l)),
                   (
-                    to-all _ (t .lines) (λ ℓ l. le-leb (lineTick s ℓ) (s .scheduler .clock) (good .line-past ℓ l)),
+                    to-all _ (t .lines) (λ ℓ l. le-leb (lineTick (s .gate .lineTicks) ℓ) (s .scheduler .clock) (g .lines-past ℓ l)),
                     (
-                      to-all _ (length (t .links)) (λ i l. le-leb (accountAt (s .accounts) i .tick) (s .scheduler .clock) (good .account-past i l)),
+                      to-all _ (length (t .links)) (λ i l. le-leb (accountAt (s .gate .accounts) i .tick) (s .scheduler .clock) (g .accounts-past i l)),
                       (
                         to-all _ (length (t .links))
                             (λ i l.
-                            le-leb (accountAt (s .accounts) i .credit) (bag (linkAt (t .links) i) + linkAt (t .links) i .jitter)
-                            (credit-top (linkAt (t .links) i) (passedFrames t log) (accountAt (s .accounts) i) (good .credited i l))),
-                        (sends-fit (s .scheduler .clock) (s .scheduler .queues) (k .ordered .sound .eight) (s .scheduler .sender) (k .ordered .sound .sends), tt),
+                            le-leb (accountAt (s .gate .accounts) i .credit) (bag (linkAt (t .links) i) + linkAt (t .links) i .jitter) (g .accounts-top i l)),
+                        (sends-fit (s .scheduler .clock) (s .scheduler .queues) (k .sound .eight) (s .scheduler .sender) (k .sound .sends), tt),
                       ),
                     ),
                   ),
@@ -94,18 +100,20 @@ module _ (t : Table) (passes : tableRefusal t ≡ 0) (s : Port) (log : List Entr
         ),
       )
 
+-- ---- what every list of reports keeps is fit
+kept-fit : (t : Table) → tableRefusal t ≡ 0 → (s : Port) (log : List Entry) → Invariant t s log → fit t s ≡ true
+kept-fit t passes s log k =
+    ordered-fit t passes s (k .ordered)
+    (record {
+      lines-past = good .line-past;
+      accounts-past = good .account-past;
+      accounts-top = λ i l. credit-top (linkAt (t .links) i) (passedFrames t log) (accountAt (s .gate .accounts) i) (good .credited i l);
+    })
+  where
+    good : Good occupied (upTo 0) (t .lines) (t .links) (passedFrames t log) (s .scheduler .clock) (s .gate)
+    good = k .good occupied occupied-weight (upTo 0)
+
 -- ---- so no report is refused with 10
-others : (t : Table) (s : Port) (r : Report) (room : ℕ) → Apart 10 (check 11 (ltb lastTick (tickOf r)) ∷ check 12 (ltb (tickOf r) (s .scheduler .clock)) ∷ (frameChecks t s r ++ (roomCheck s room ∷ [])))
-unfolding frameChecks tickOf
-others t s (wait time) room = omega arith
-others t s (frame time line number len) room = omega arith
-
-refusal-apart : (t : Table) (s : Port) (r : Report) (room : ℕ) → fit t s ≡ true → reportRefusal t s r room ≡ 10 → ⊥
-unfolding reportRefusal reportChecks
-refusal-apart t s r room e x =
-    first-apart 10 (check 11 (ltb lastTick (tickOf r)) ∷ check 12 (ltb (tickOf r) (s .scheduler .clock)) ∷ (frameChecks t s r ++ (roomCheck s room ∷ []))) (omega arith) (others t s r room)
-    (sym (first-later (check 10 (not (fit t s))) _ (rw e)) ∙ x)
-
 refused-is : (n : ℕ) (t : Table) (s : Port) (c : Call) → acceptedOr n t s c .answer .refused ≡ n
 unfolding acceptedOr
 refused-is zero t s c = refl
@@ -129,19 +137,17 @@ pub never-unfit : NeverUnfit
 never-unfit t passes calls = (run-fit t passes calls, run-apart t passes calls)
 
 -- ---- what a fit port is
-pub record Fit (t : Table) (s : Port) : Type 0 where
+pub record FitPort (t : Table) (s : Port) : Type 0 where
   pub table : Valid t
   pub early : s .scheduler .clock ≤ lastTick
   pub few : (p : ℕ) → p < 8 → length (queueOf (s .scheduler .queues) p) ≤ mostFrames
   pub lined : (p : ℕ) → p < 8 → Lined t p (s .scheduler .clock) 0 (queueOf (s .scheduler .queues) p)
   pub below : (p : ℕ) → p < 8 → held (queueOf (s .scheduler .queues) p) ≤ markOf s p
   pub within : (p : ℕ) → p < 8 → markOf s p ≤ sizeOf t p
-  pub lines-past : (ℓ : ℕ) → ℓ < t .lines → lineTick s ℓ ≤ s .scheduler .clock
-  pub accounts-past : (i : ℕ) → i < length (t .links) → accountAt (s .accounts) i .tick ≤ s .scheduler .clock
-  pub accounts-top : (i : ℕ) → i < length (t .links) → accountAt (s .accounts) i .credit ≤ bag (linkAt (t .links) i) + linkAt (t .links) i .jitter
+  pub gate : FitGate t (s .scheduler .clock) (s .gate)
   pub sender : senderFit (s .scheduler .clock) (s .scheduler .queues) (s .scheduler .sender) ≡ true
 
-pub fit-is : (t : Table) (s : Port) → fit t s ≡ true → Fit t s
+pub fit-is : (t : Table) (s : Port) → fit t s ≡ true → FitPort t s
 unfolding fit
 fit-is t s e =
     let all = all-true _ e in
@@ -155,17 +161,20 @@ fit-is t s e =
           (all-to (λ q. framesFit t q (s .scheduler .clock) 0 (queueOf (s .scheduler .queues) q)) 8 (all .1 .1 .1 .0) p l);
       below = λ p l. leb-true _ _ (all-to (λ q. leb (held (queueOf (s .scheduler .queues) q)) (markOf s q)) 8 (all .1 .1 .1 .1 .0) p l);
       within = λ p l. leb-true _ _ (all-to (λ q. leb (markOf s q) (sizeOf t q)) 8 (all .1 .1 .1 .1 .1 .0) p l);
-      lines-past = λ ℓ l. leb-true _ _ (all-to (λ k. leb (lineTick s k) (s .scheduler .clock)) (t .lines) (all .1 .1 .1 .1 .1 .1 .0) ℓ l);
-      accounts-past = λ i l. leb-true _ _ (all-to (λ k. leb (accountAt (s .accounts) k .tick) (s .scheduler .clock)) (length (t .links)) (all .1 .1 .1 .1 .1 .1 .1 .0) i l);
-      accounts-top =
-          λ i l.
-          leb-true _ _
-          (all-to (λ k. leb (accountAt (s .accounts) k .credit) (bag (linkAt (t .links) k) + linkAt (t .links) k .jitter)) (length (t .links)) (all .1 .1 .1 .1 .1 .1 .1 .1 .0) i l);
+      gate =
+          record {
+            lines-past = λ ℓ l. leb-true _ _ (all-to (λ k. leb (lineTick (s .gate .lineTicks) k) (s .scheduler .clock)) (t .lines) (all .1 .1 .1 .1 .1 .1 .0) ℓ l);
+            accounts-past = λ i l. leb-true _ _ (all-to (λ k. leb (accountAt (s .gate .accounts) k .tick) (s .scheduler .clock)) (length (t .links)) (all .1 .1 .1 .1 .1 .1 .1 .0) i l);
+            accounts-top =
+                λ i l.
+                leb-true _ _
+                (all-to (λ k. leb (accountAt (s .gate .accounts) k .credit) (bag (linkAt (t .links) k) + linkAt (t .links) k .jitter)) (length (t .links)) (all .1 .1 .1 .1 .1 .1 .1 .1 .0) i l);
+          };
       sender = all .1 .1 .1 .1 .1 .1 .1 .1 .1 .0;
     }
 
-fit-sends : (clock : ℕ) (queues : List (List Frame)) → length queues ≡ 8 → (z : Sender) → senderFit clock queues z ≡ true → Sends clock queues z
-unfolding Sends senderFit
+fit-sends : (clock : ℕ) (queues : List (List Frame)) → length queues ≡ 8 → (z : Sender) → senderFit clock queues z ≡ true → SendsInTime clock queues z
+unfolding SendsInTime senderFit
 fit-sends clock queues n idle e = tt
 fit-sends clock queues n (sending q s) e =
     let all = all-true _ e in (
@@ -179,7 +188,7 @@ fit-sends clock queues n (sending q s) e =
       },
     )
 
-pub fit-sound : (t : Table) (s : Port) → Fit t s → length (s .scheduler .queues) ≡ 8 → Sound (longest t) (s .scheduler)
+pub fit-sound : (t : Table) (s : Port) → FitPort t s → length (s .scheduler .queues) ≡ 8 → Sound (longest t) (s .scheduler)
 fit-sound t s k n = record { eight = n; frames = λ q. go q (decLe 8 q); sends = fit-sends (s .scheduler .clock) (s .scheduler .queues) n (s .scheduler .sender) (k .sender) }
   where
     go : (q : ℕ) → Dec (8 ≤ q) → Each (Meets (longest t q) (s .scheduler .clock)) (queueOf (s .scheduler .queues) q)

@@ -7,7 +7,7 @@ use native.Mathlib.Nat.{add-zero}
 use native.Mathlib.Omega.{arith}
 use lib.Dec.{eqb}
 use borrow.Author.Tests.{eq-eqb, ne-eqb}
-use Rattle.model.specs.Machine.{Frame, Sender, idle, sending, Departure, Advance, at, advanced, headOf, withoutHead, highestWaiting, startIfAny, started, departure, freedIf, byteLeaves, tick, joined, ticks, advance}
+use Rattle.model.specs.Machine.{Frame, Sender, idle, sending, Departure, Advance, at, advanced, headOf, withoutHead, highestWaiting, startIfAny, started, departure, freedIf, byteLeaves, tick, preceded, ticks, advance}
 
 -- nothing waits
 quiet-idle : (k m : ℕ) (qs : List (List Frame)) → highestWaiting qs ≡ none → ticks k (at m qs idle) ≡ advanced [] (at (m + k) qs idle)
@@ -31,7 +31,7 @@ module _ (qs : List (List Frame)) (p s : ℕ) where
 
   -- it byteLeaves
   leave : (k j m : ℕ) → m + suc j ≡ s + headOf qs p .length →
-      ticks (suc j + k) (at m qs (sending p s)) ≡ joined (departure (headOf qs p) (s + headOf qs p .length) ∷ []) (ticks k (at (s + headOf qs p .length) (withoutHead qs p) idle))
+      ticks (suc j + k) (at m qs (sending p s)) ≡ preceded (departure (headOf qs p) (s + headOf qs p .length) ∷ []) (ticks k (at (s + headOf qs p .length) (withoutHead qs p) idle))
   unfolding ticks tick byteLeaves freedIf started
   leave k zero m e = let h : s + headOf qs p .length ≡ suc m = omega arith in
       let g : 1 + k ≡ suc k = omega arith in
@@ -45,7 +45,7 @@ module _ (qs : List (List Frame)) (p s : ℕ) where
   under-way t m h l = let e : m + (t - m) ≡ t = omega arith in rw (quiet (t - m) m (omega arith), e)
 
   pub sent : (t m : ℕ) → m < s + headOf qs p .length → s + headOf qs p .length ≤ t →
-      advance t (at m qs (sending p s)) ≡ joined (departure (headOf qs p) (s + headOf qs p .length) ∷ []) (advance t (at (s + headOf qs p .length) (withoutHead qs p) idle))
+      advance t (at m qs (sending p s)) ≡ preceded (departure (headOf qs p) (s + headOf qs p .length) ∷ []) (advance t (at (s + headOf qs p .length) (withoutHead qs p) idle))
   unfolding advance
   sent t m h l =
       let e : t - m ≡ suc (s + headOf qs p .length - suc m) + (t - (s + headOf qs p .length)) = omega arith in
@@ -63,5 +63,5 @@ pub starting : (t m p : ℕ) (qs : List (List Frame)) → highestWaiting qs ≡ 
 unfolding advance
 starting t m p qs e h = let g : t - m ≡ suc (t - suc m) = omega arith in rw g (start (t - suc m) m p qs e)
 
-pub joined-joined : (a b : List Departure) (r : Advance) → joined a (joined b r) ≡ joined (a ++ b) r
-joined-joined a b r = rw append-assoc
+pub preceded-preceded : (a b : List Departure) (r : Advance) → preceded a (preceded b r) ≡ preceded (a ++ b) r
+preceded-preceded a b r = rw append-assoc

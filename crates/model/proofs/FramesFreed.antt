@@ -9,7 +9,7 @@ use lib.Dec.{eqb}
 use lib.ListN.{length, set, drop, length-append}
 use Rattle.model.specs.Basics.{Each}
 use Rattle.model.specs.Machine.{Frame, Sender, idle, sending, Scheduler, queueOf, headOf, highestWaiting, startIfAny, started, freedIf, byteLeaves, tick, ticks, framesHeld}
-use Rattle.model.proofs.BusyPeriod.{Under, Sends, Meets, Sound}
+use Rattle.model.proofs.BusyPeriod.{Under, SendsInTime, Meets, Sound}
 use Rattle.model.proofs.BusySteps.{begins, tick-sound}
 
 frames-set : (qs : List (List Frame)) (q : ℕ) (l : List Frame) → q < length qs → framesHeld (set qs q l) + length (queueOf qs q) ≡ framesHeld qs + length l
@@ -38,10 +38,10 @@ wakes-count limit c qs none x m = omega arith
 wakes-count limit c qs (some q) x m = leaves-count c qs q c (begins limit c qs q m x)
 
 tick-count : (limit : ℕ → ℕ) (st : Scheduler) → Sound limit st → length (tick st .departures) + framesHeld (tick st .scheduler .queues) ≡ framesHeld (st .queues)
-unfolding tick started Sends
+unfolding tick started SendsInTime
 tick-count limit st k = go (st .sender) (k .sends)
   where
-    go : (z : Sender) → Sends (st .clock) (st .queues) z
+    go : (z : Sender) → SendsInTime (st .clock) (st .queues) z
         → length (byteLeaves (st .clock) (st .queues) (started (st .clock) (st .queues) z) .departures) + framesHeld (byteLeaves (st .clock) (st .queues) (started (st .clock) (st .queues) z) .scheduler .queues) ≡ framesHeld (st .queues)
     go idle m = wakes-count limit (st .clock) (st .queues) (highestWaiting (st .queues)) refl (k .frames)
     go (sending q s) m = leaves-count (st .clock) (st .queues) q s (m .1)

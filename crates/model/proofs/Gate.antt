@@ -14,7 +14,8 @@ use Rattle.model.specs.Basics.{provided, Each, done, also}
 use Rattle.model.specs.Link.{VirtualLink, bag, linkAt}
 use Rattle.model.specs.Table.{Table}
 use Rattle.model.specs.Arrival.{frameCurve, onLine, arrivalCurve}
-use Rattle.model.specs.Report.{Account, Port, blankAccount, accountAt, fullAccount, fresh, replenished, charged}
+use Rattle.model.specs.Port.{Account, Gate, blankAccount, accountAt, lineTick, fullAccount, fresh, withLineTick, withAccount}
+use Rattle.model.specs.Report.{replenished, charged}
 use Rattle.model.specs.Promises.{Weight}
 use Rattle.model.proofs.Passed.{Passed, passedFrame, Proper, total, cnt, setLength, lineLength}
 use Rattle.model.proofs.TokenBucket.{Credited, credited-start, policed-keeps, charged-keeps, other-keeps, cnt-frames}
@@ -43,27 +44,13 @@ numbers-apart links r i j k l n e = go (decLe i j)
     go (no a) = omega (arith, r j i (omega arith) k)
 
 -- ---- the gate, and what an event makes of it
-pub record Gate : Type 0 where
-  pub lineTicks : List ℕ
-  pub accounts : List Account
 
-abbrev pub gateOf : Port → Gate
-gateOf s = record { lineTicks = s .lineTicks; accounts = s .accounts }
+-- the account of link i, replenished to t; and charged
+abbrev pub renewed : List VirtualLink → Gate → ℕ → ℕ → Account
+renewed links g i t = replenished (bag (linkAt links i)) (linkAt links i .jitter) (accountAt (g .accounts) i) t
 
--- a frame on the line at t
-abbrev pub raisedGate : Gate → ℕ → ℕ → Gate
-raisedGate g line t = record { lineTicks = set (g .lineTicks) line t; accounts = g .accounts }
-
--- the account of link i, replenished to t
-abbrev pub refilled : List VirtualLink → Gate → ℕ → ℕ → Account
-refilled links g i t = replenished (linkAt links i) (accountAt (g .accounts) i) t
-
--- a frame of link i at t is policed; it passes, on the line
-abbrev pub policedGate : List VirtualLink → Gate → ℕ → ℕ → Gate
-policedGate links g i t = record { lineTicks = g .lineTicks; accounts = set (g .accounts) i (refilled links g i t) }
-
-abbrev pub passedGate : List VirtualLink → Gate → ℕ → ℕ → ℕ → Gate
-passedGate links g line i t = record { lineTicks = set (g .lineTicks) line t; accounts = set (g .accounts) i (charged (linkAt links i) (refilled links g i t)) }
+abbrev pub reduced : List VirtualLink → Gate → ℕ → ℕ → Account
+reduced links g i t = charged (bag (linkAt links i)) (renewed links g i t)
 
 -- a frame of link i, of that length, on the line at t, that passes
 pub record Conforms (lines : ℕ) (links : List VirtualLink) (g : Gate) (line i len t : ℕ) : Type 0 where
@@ -71,8 +58,8 @@ pub record Conforms (lines : ℕ) (links : List VirtualLink) (g : Gate) (line i 
   pub on-line : linkAt links i .line ≡ line
   pub line-below : line < lines
   pub short : len ≤ linkAt links i .greatest
-  pub covered : bag (linkAt links i) ≤ refilled links g i t .credit
-  pub spaced : getD (g .lineTicks) line 0 + len ≤ t
+  pub covered : bag (linkAt links i) ≤ renewed links g i t .credit
+  pub spaced : lineTick (g .lineTicks) line + len ≤ t
 
 -- the gate at the clock, after the frames h: each account and each line within its law, none ahead of the clock
 pub record Good (weight : ℕ → ℕ) (members : VirtualLink → Bool) (lines : ℕ) (links : List VirtualLink) (h : List Passed) (clock : ℕ) (g : Gate) : Type 0 where
@@ -81,8 +68,8 @@ pub record Good (weight : ℕ → ℕ) (members : VirtualLink → Bool) (lines :
   pub proper : Each (Proper lines links) h
   pub credited : (i : ℕ) → i < length links → Credited (linkAt links i) h (accountAt (g .accounts) i)
   pub account-past : (i : ℕ) → i < length links → accountAt (g .accounts) i .tick ≤ clock
-  pub carried : (ℓ : ℕ) → ℓ < lines → Carried weight members links ℓ h (getD (g .lineTicks) ℓ 0)
-  pub line-past : (ℓ : ℕ) → ℓ < lines → getD (g .lineTicks) ℓ 0 ≤ clock
+  pub carried : (ℓ : ℕ) → ℓ < lines → Carried weight members links ℓ h (lineTick (g .lineTicks) ℓ)
+  pub line-past : (ℓ : ℕ) → ℓ < lines → lineTick (g .lineTicks) ℓ ≤ clock
 
 -- one place of a list is set
 pub after-set : {A : Type 0} (Q : ℕ → A → Type 0) (n : ℕ) (l : List A) (d : A) (i : ℕ) (a : A) → length l ≡ n → i < n → Q i a
@@ -115,7 +102,7 @@ module _ {weight : ℕ → ℕ} {members : VirtualLink → Bool} {lines : ℕ} {
         line-past = λ ℓ n. omega (arith, good .line-past ℓ n);
       }
 
-  pub raise-good : (line t : ℕ) → line < lines → clock ≤ t → Good weight members lines links h t (raisedGate g line t)
+  pub raise-good : (line t : ℕ) → line < lines → clock ≤ t → Good weight members lines links h t (withLineTick g line t)
   raise-good line t l m =
       record {
         accounts-length = good .accounts-length;
@@ -125,7 +112,7 @@ module _ {weight : ℕ → ℕ} {members : VirtualLink → Bool} {lines : ℕ} {
         account-past = λ i n. omega (arith, good .account-past i n);
         carried =
             after-set (λ ℓ last. Carried weight members links ℓ h last) lines (g .lineTicks) 0 line t (good .lines-length) l
-            (carried-later weight members links line h (getD (g .lineTicks) line 0) t (omega (arith, good .line-past line l)) (good .carried line l)) (λ ℓ n _. good .carried ℓ n);
+            (carried-later weight members links line h (lineTick (g .lineTicks) line) t (omega (arith, good .line-past line l)) (good .carried line l)) (λ ℓ n _. good .carried ℓ n);
         line-past =
             after-set (λ ℓ last. last ≤ t) lines (g .lineTicks) 0 line t (good .lines-length) l (le-refl t) (λ ℓ n _. omega (arith, good .line-past ℓ n));
       }
@@ -134,10 +121,10 @@ module _ {weight : ℕ → ℕ} {members : VirtualLink → Bool} {lines : ℕ} {
   set-past : (i t : ℕ) (a : Account) → i < length links → clock ≤ t → a .tick ≤ t → (j : ℕ) → j < length links → accountAt (set (g .accounts) i a) j .tick ≤ t
   set-past i t a l m e = after-set (λ j b. b .tick ≤ t) (length links) (g .accounts) blankAccount i a (good .accounts-length) l e (λ j n _. omega (arith, good .account-past j n))
 
-  refilled-credited : (i t : ℕ) → i < length links → clock ≤ t → Credited (linkAt links i) h (refilled links g i t)
-  refilled-credited i t l m = policed-keeps (linkAt links i) h (accountAt (g .accounts) i) t (omega (arith, good .account-past i l)) (good .credited i l)
+  renewed-credited : (i t : ℕ) → i < length links → clock ≤ t → Credited (linkAt links i) h (renewed links g i t)
+  renewed-credited i t l m = policed-keeps (linkAt links i) h (accountAt (g .accounts) i) t (omega (arith, good .account-past i l)) (good .credited i l)
 
-  pub police-good : (i t : ℕ) → i < length links → clock ≤ t → Good weight members lines links h t (policedGate links g i t)
+  pub police-good : (i t : ℕ) → i < length links → clock ≤ t → Good weight members lines links h t (withAccount g i (renewed links g i t))
   unfolding replenished
   police-good i t l m =
       record {
@@ -145,15 +132,15 @@ module _ {weight : ℕ → ℕ} {members : VirtualLink → Bool} {lines : ℕ} {
         lines-length = good .lines-length;
         proper = good .proper;
         credited =
-            after-set (λ j a. Credited (linkAt links j) h a) (length links) (g .accounts) blankAccount i (refilled links g i t) (good .accounts-length) l
-            (refilled-credited i t l m) (λ j n _. good .credited j n);
-        account-past = set-past i t (refilled links g i t) l m (le-refl t);
+            after-set (λ j a. Credited (linkAt links j) h a) (length links) (g .accounts) blankAccount i (renewed links g i t) (good .accounts-length) l
+            (renewed-credited i t l m) (λ j n _. good .credited j n);
+        account-past = set-past i t (renewed links g i t) l m (le-refl t);
         carried = good .carried;
         line-past = λ ℓ n. omega (arith, good .line-past ℓ n);
       }
 
   pub pass-good : Weight weight → Rising links → (line i len t : ℕ) → Conforms lines links g line i len t → clock ≤ t
-      → Good weight members lines links (passedFrame (linkAt links i) len t ∷ h) t (passedGate links g line i t)
+      → Good weight members lines links (passedFrame (linkAt links i) len t ∷ h) t (withAccount (withLineTick g line t) i (reduced links g i t))
   unfolding replenished charged
   pass-good z rising line i len t c m =
       record {
@@ -161,22 +148,19 @@ module _ {weight : ℕ → ℕ} {members : VirtualLink → Bool} {lines : ℕ} {
         lines-length = rw length-set (good .lines-length);
         proper = also proper-frame (good .proper);
         credited =
-            after-set (λ j a. Credited (linkAt links j) (it ∷ h) a) (length links) (g .accounts) blankAccount i fee (good .accounts-length) (c .in-table)
-            (charged-keeps (linkAt links i) h (refilled links g i t) it refl refl (c .covered) (refilled-credited i t (c .in-table) m))
+            after-set (λ j a. Credited (linkAt links j) (it ∷ h) a) (length links) (g .accounts) blankAccount i (reduced links g i t) (good .accounts-length) (c .in-table)
+            (charged-keeps (linkAt links i) h (renewed links g i t) it refl refl (c .covered) (renewed-credited i t (c .in-table) m))
             (λ j n x. other-keeps (linkAt links j) h (accountAt (g .accounts) j) it (numbers-apart links rising j i n (c .in-table) x) (good .credited j n));
-        account-past = set-past i t fee (c .in-table) m (le-refl t);
+        account-past = set-past i t (reduced links g i t) (c .in-table) m (le-refl t);
         carried =
             after-set (λ ℓ last. Carried weight members links ℓ (it ∷ h) last) lines (g .lineTicks) 0 line t (good .lines-length) (c .line-below)
-            (carried-accepts weight z members lines links line h (getD (g .lineTicks) line 0) it proper-frame (c .spaced) (good .carried line (c .line-below)))
-            (λ ℓ n x. carried-other weight members links ℓ h (getD (g .lineTicks) ℓ 0) it (not-on members ℓ (linkAt links i) (λ y. x (cc))) (good .carried ℓ n));
+            (carried-accepts weight z members lines links line h (lineTick (g .lineTicks) line) it proper-frame (c .spaced) (good .carried line (c .line-below)))
+            (λ ℓ n x. carried-other weight members links ℓ h (lineTick (g .lineTicks) ℓ) it (not-on members ℓ (linkAt links i) (λ y. x (cc))) (good .carried ℓ n));
         line-past = raise-good line t (c .line-below) m .line-past;
       }
     where
       it : Passed
       it = passedFrame (linkAt links i) len t
-
-      fee : Account
-      fee = charged (linkAt links i) (refilled links g i t)
 
       proper-frame : Proper lines links (passedFrame (linkAt links i) len t)
       proper-frame = record { member = mem-at links i (c .in-table); short = c .short; line-below = rw (c .on-line) (c .line-below) }
@@ -187,9 +171,9 @@ module _ {weight : ℕ → ℕ} {members : VirtualLink → Bool} {lines : ℕ} {
       set-bound weight z members lines links h s (clock - s) (good .proper)
       (all-members (λ v. cnt v h s ≤ frameCurve v (clock - s)) links
       (λ i m. cnt-frames (linkAt links i) h (accountAt (g .accounts) i) clock s (good .credited i m) (good .account-past i m) l))
-      (λ ℓ m. go ℓ m (decLe s (getD (g .lineTicks) ℓ 0)))
+      (λ ℓ m. go ℓ m (decLe s (lineTick (g .lineTicks) ℓ)))
     where
-      go : (ℓ : ℕ) → ℓ < lines → Dec (s ≤ getD (g .lineTicks) ℓ 0) → total (lineLength weight members ℓ s) h ≤ (clock - s) + lineGreatest weight members links ℓ
+      go : (ℓ : ℕ) → ℓ < lines → Dec (s ≤ lineTick (g .lineTicks) ℓ) → total (lineLength weight members ℓ s) h ≤ (clock - s) + lineGreatest weight members links ℓ
       go ℓ m (yes i) = omega (arith, good .carried ℓ m .bound s i, good .line-past ℓ m)
       go ℓ m (no i) = omega (arith, good .carried ℓ m .past s (lt-of-not-le i))
 
@@ -205,7 +189,7 @@ full-at [] i l = absurd (omega arith)
 full-at (v ∷ links) zero l = refl
 full-at (v ∷ links) (suc i) l = full-at links i (omega arith)
 
-pub fresh-good : (weight : ℕ → ℕ) (members : VirtualLink → Bool) (t : Table) → Good weight members (t .lines) (t .links) [] 0 (gateOf (fresh t))
+pub fresh-good : (weight : ℕ → ℕ) (members : VirtualLink → Bool) (t : Table) → Good weight members (t .lines) (t .links) [] 0 (fresh t .gate)
 unfolding fresh
 fresh-good weight members t =
     record {

@@ -17,19 +17,21 @@ use Rattle.model.specs.Units.{lastTick, occupied}
 use Rattle.model.specs.Link.{VirtualLink, bag, linkAt, placeOf}
 use Rattle.model.specs.Table.{Table, sizeOf}
 use Rattle.model.specs.Bounds.{ofPriority, longest, orZero}
-use Rattle.model.specs.Machine.{Frame, queueOf, queuedLast, advance, stored, bytes, held}
-use Rattle.model.specs.Report.{Account, Port, markOf, fresh, namesLink, Report, wait, frame, Judged, judged, charged, storedIf, withLineTick, arrived, Stepped, step, Call}
+use Rattle.model.specs.Machine.{Frame, queueOf, queuedLast, advance, bytes, held}
+use Rattle.model.specs.Port.{Gate, Port, markOf, fresh, withGate, withLineTick, withAccount}
+use Rattle.model.specs.Fitness.{namesLink}
+use Rattle.model.specs.Report.{Report, frame, Judged, storedIf, arrived, Stepped, Call}
 use Rattle.model.specs.Run.{Entry, accepted, frameIf, passedBy, run}
 use Rattle.model.specs.Promises.{Weight}
 use Rattle.model.proofs.Checks.{true-all}
 use Rattle.model.proofs.Curves.{greatest-ge}
-use Rattle.model.proofs.Passed.{Passed, passedFrame}
-use Rattle.model.proofs.Gate.{mem-at, Gate, gateOf, raisedGate, passedGate, Good, later-good, raise-good, police-good, pass-good, fresh-good}
+use Rattle.model.proofs.Passed.{Passed}
+use Rattle.model.proofs.Gate.{mem-at, renewed, reduced, Good, later-good, raise-good, police-good, pass-good, fresh-good}
 use Rattle.model.proofs.ValidTable.{Valid}
-use Rattle.model.proofs.BusyPeriod.{Sends, Meets, Sound, put-bytes}
+use Rattle.model.proofs.BusyPeriod.{SendsInTime, Meets, Sound, put-bytes}
 use Rattle.model.proofs.BusySteps.{stored-sound}
 use Rattle.model.proofs.QueueSteps.{advance-keeps, advance-sound, advance-clock, held-tail}
-use Rattle.model.proofs.Stepping.{Admitted, renewed, priorityAt, Judgement, filters, polices, drops, stores, Timely, Arrives, movedTo, freedBy, Stepping, refuses, waits, frames, stepping}
+use Rattle.model.proofs.Stepping.{Admitted, policedPort, chargedPort, priorityAt, Judgement, filters, polices, drops, stores, Timely, Arrives, movedTo, reached, freedBy, Stepping, refuses, waits, frames, stepping}
 use Rattle.model.proofs.Lined.{Lined, over, lined-later, lined-tail, lined-last}
 use Rattle.model.proofs.Log.{entryOf, taken, frame-declined, andPassed, passedFrames}
 
@@ -48,12 +50,11 @@ pub record Ordered (t : Table) (s : Port) : Type 0 where
 
 pub record Invariant (t : Table) (s : Port) (log : List Entry) : Type 0 where
   pub ordered : Ordered t s
-  pub good : AllGood t (passedFrames t log) (s .scheduler .clock) (gateOf s)
+  pub good : AllGood t (passedFrames t log) (s .scheduler .clock) (s .gate)
 
 -- the gate plays no part in it
-regated : (t : Table) (s : Port) → Ordered t s → (lineTicks : List ℕ) (accounts : List Account)
-    → Ordered t (record { scheduler = s .scheduler; marks = s .marks; lineTicks = lineTicks; accounts = accounts })
-regated t s k lineTicks accounts = record { sound = k .sound; lined = k .lined; early = k .early; eight = k .eight; below = k .below; within = k .within }
+pub regated : (t : Table) (s : Port) → Ordered t s → (g : Gate) → Ordered t (withGate s g)
+regated t s k g = record { sound = k .sound; lined = k .lined; early = k .early; eight = k .eight; below = k .below; within = k .within }
 
 -- ---- an advance
 pub moved-ordered : (t : Table) (s : Port) (time : ℕ) → Timely s time → Ordered t s → Ordered t (movedTo s time)
@@ -114,10 +115,9 @@ module _ (t : Table) (valid : Valid t) (s : Port) (k : Ordered t s) (time line n
   unfolding provided
   grown = rw (eq-eqb p p refl) at (put-bytes occupied queues p p it p-in)
 
-  pub stored-ordered : held (queueOf queues p) + occupied len ≤ sizeOf t p → (lineTicks : List ℕ) (accounts : List Account)
-      → Ordered t (storedIf true (record { scheduler = s .scheduler; marks = s .marks; lineTicks = lineTicks; accounts = accounts }) p it .port)
+  pub stored-ordered : held (queueOf queues p) + occupied len ≤ sizeOf t p → (g : Gate) → Ordered t (storedIf true (withGate s g) p it .port)
   unfolding storedIf
-  stored-ordered room lineTicks accounts =
+  stored-ordered room g =
       record {
         sound = stored-sound (longest t) (s .scheduler) p it p-below meets-its-queue (k .sound);
         lined = λ q. row q (ℕ-discrete q p);
@@ -128,7 +128,7 @@ module _ (t : Table) (valid : Valid t) (s : Port) (k : Ordered t s) (time line n
       }
     where
       after : Port
-      after = storedIf true (record { scheduler = s .scheduler; marks = s .marks; lineTicks = lineTicks; accounts = accounts }) p it .port
+      after = storedIf true (withGate s g) p it .port
 
       row : (q : ℕ) → Dec (q ≡ p) → Lined t q (s .scheduler .clock) 0 (queueOf (queuedLast queues p it) q)
       row q (yes x) =
@@ -157,11 +157,11 @@ module _ (t : Table) (valid : Valid t) (s : Port) (log : List Entry) (k : Invari
     moved = moved-ordered t s time timely (k .ordered)
 
     module _ (line number len : ℕ) (arrives : Arrives t s time line len) (list : List ℕ) where
-      raised : AllGood t (passedFrames t log) time (raisedGate (gateOf s) line time)
+      raised : AllGood t (passedFrames t log) time (withLineTick (s .gate) line time)
       raised weight z members = raise-good (k .good weight z members) line time (arrives .line-in) (timely .from)
 
-      passed : (i : ℕ) → Admitted t line number len i → bag (linkAt (t .links) i) ≤ renewed t s i time .credit
-          → AllGood t (andPassed t (some (arrived number len time)) (passedFrames t log)) time (passedGate (t .links) (gateOf s) line i time)
+      passed : (i : ℕ) → Admitted t line number len i → bag (linkAt (t .links) i) ≤ renewed (t .links) (s .gate) i time .credit
+          → AllGood t (andPassed t (some (arrived number len time)) (passedFrames t log)) time (withAccount (withLineTick (s .gate) line time) i (reduced (t .links) (s .gate) i time))
       unfolding andPassed orZero
       passed i a c weight z members =
           rw (a .place)
@@ -169,29 +169,29 @@ module _ (t : Table) (valid : Valid t) (s : Port) (log : List Entry) (k : Invari
           (record { in-table = a .at-place; on-line = a .on-its-line; line-below = arrives .line-in; short = a .not-longer; covered = c; spaced = arrives .spaced })
           (timely .from))
 
-      judged-kept : {j : Judged} → Judgement t (withLineTick (movedTo s time) line time) time line number len j
+      judged-kept : {j : Judged} → Judgement t (reached s time line) time line number len j
           → Invariant t (j .port) (taken (frame time line number len) (j .verdict) (freedBy s time) list ∷ log)
       unfolding passedFrames passedBy frameIf accepted andPassed storedIf
       judged-kept filters =
           record {
-            ordered = regated t (movedTo s time) moved (set (s .lineTicks) line time) (s .accounts);
+            ordered = regated t (movedTo s time) moved (withLineTick (s .gate) line time);
             good = λ weight z members. rw there (raised weight z members);
           }
       judged-kept (polices i a c) =
           record {
-            ordered = regated t (movedTo s time) moved (set (s .lineTicks) line time) (set (s .accounts) i (renewed t s i time));
+            ordered = regated t (movedTo s time) moved (policedPort t (reached s time line) i time .gate);
             good = λ weight z members. rw there (police-good (raised weight z members) i time (a .at-place) (le-refl time));
           }
       judged-kept (drops i a c room) =
           record {
-            ordered = regated t (movedTo s time) moved (set (s .lineTicks) line time) (set (s .accounts) i (charged (linkAt (t .links) i) (renewed t s i time)));
+            ordered = regated t (movedTo s time) moved (chargedPort t (reached s time line) i time .gate);
             good = λ weight z members. rw there (passed i a c weight z members);
           }
       judged-kept (stores i a c room) =
           record {
             ordered =
-                stored-ordered t valid (movedTo s time) moved time line number len i there (arrives .long) a room (set (s .lineTicks) line time)
-                (set (s .accounts) i (charged (linkAt (t .links) i) (renewed t s i time)));
+                stored-ordered t valid (movedTo s time) moved time line number len i there (arrives .long) a room
+                (chargedPort t (reached s time line) i time .gate);
             good = λ weight z members. rw there (passed i a c weight z members);
           }
 
@@ -218,7 +218,7 @@ no-marks (suc n) zero = refl
 no-marks (suc n) (suc p) = no-marks n p
 
 pub fresh-kept : (t : Table) → Invariant t (fresh t) []
-unfolding fresh Sends bytes passedFrames
+unfolding fresh SendsInTime bytes passedFrames
 fresh-kept t =
     record {
       ordered =

@@ -8,7 +8,8 @@ use native.Mathlib.Omega.{arith}
 use lib.ListN.{length, getD, length-append, List·getD-append}
 use lib.Seq.{getD-append-seam}
 use Rattle.model.specs.Link.{VirtualLink, bag}
-use Rattle.model.specs.Report.{Account, fullAccount, replenished, charged}
+use Rattle.model.specs.Port.{Account, fullAccount}
+use Rattle.model.specs.Report.{replenished, charged}
 use Rattle.model.specs.Run.{KeepBagAndJitter}
 
 one-more : (ticks : List ℕ) (t : ℕ) → length (ticks ++ (t ∷ [])) ≡ suc (length ticks)
@@ -38,20 +39,20 @@ apart v ticks t k j d e =
     rw (List·getD-append ticks (t ∷ []) 0 j (omega arith), n, getD-append-seam ticks t [] 0) at (k j (suc d) (omega arith) (omega (arith, one-more ticks t)))
 
 pub paid-covers : (v : VirtualLink) (ticks : List ℕ) (a : Account) (t : ℕ) → KeepBagAndJitter v (ticks ++ (t ∷ [])) → a .tick ≤ t → Paid v ticks a
-    → bag v ≤ replenished v a t .credit
+    → bag v ≤ replenished (bag v) (v .jitter) a t .credit
 unfolding replenished
 paid-covers v ticks a t k l (unused e c) = omega arith
 paid-covers v ticks a t k l (used j d e c) = omega (arith, apart v ticks t k j d e)
 
-pub paid-charged : (v : VirtualLink) (ticks : List ℕ) (a : Account) (t : ℕ) → a .tick ≤ t → bag v ≤ replenished v a t .credit → Paid v ticks a
-    → Paid v (ticks ++ (t ∷ [])) (charged v (replenished v a t))
+pub paid-charged : (v : VirtualLink) (ticks : List ℕ) (a : Account) (t : ℕ) → a .tick ≤ t → bag v ≤ replenished (bag v) (v .jitter) a t .credit → Paid v ticks a
+    → Paid v (ticks ++ (t ∷ [])) (charged (bag v) (replenished (bag v) (v .jitter) a t))
 unfolding replenished charged
 paid-charged v ticks a t l c x = go x (decLe (bag v + v .jitter) (a .credit + (t - a .tick)))
   where
-    full : bag v + v .jitter ≤ a .credit + (t - a .tick) → Paid v (ticks ++ (t ∷ [])) (charged v (replenished v a t))
+    full : bag v + v .jitter ≤ a .credit + (t - a .tick) → Paid v (ticks ++ (t ∷ [])) (charged (bag v) (replenished (bag v) (v .jitter) a t))
     full h = used (length ticks) 0 (omega (arith, one-more ticks t)) (rw (getD-append-seam ticks t [] 0) (omega arith))
 
-    go : Paid v ticks a → Dec (bag v + v .jitter ≤ a .credit + (t - a .tick)) → Paid v (ticks ++ (t ∷ [])) (charged v (replenished v a t))
+    go : Paid v ticks a → Dec (bag v + v .jitter ≤ a .credit + (t - a .tick)) → Paid v (ticks ++ (t ∷ [])) (charged (bag v) (replenished (bag v) (v .jitter) a t))
     go x (yes h) = full h
     go (unused e m) (no h) = full (omega arith)
     go (used j d e m) (no h) = used j (suc d) (omega (arith, one-more ticks t)) (rw (List·getD-append ticks (t ∷ []) 0 j (omega arith)) (omega arith))
@@ -67,16 +68,16 @@ pub spent-start : (v : VirtualLink) → Spent v [] (fullAccount v)
 unfolding KeepBagAndJitter
 spent-start v = record { keeping = λ i j o l. absurd (omega arith); owed = λ j d e. absurd (omega arith) }
 
-pub spent-policed : (v : VirtualLink) (ticks : List ℕ) (a : Account) (t : ℕ) → a .tick ≤ t → Spent v ticks a → Spent v ticks (replenished v a t)
+pub spent-policed : (v : VirtualLink) (ticks : List ℕ) (a : Account) (t : ℕ) → a .tick ≤ t → Spent v ticks a → Spent v ticks (replenished (bag v) (v .jitter) a t)
 unfolding replenished
 spent-policed v ticks a t l s = record { keeping = s .keeping; owed = λ j d e. omega (arith, s .owed j d e) }
 
-pub spent-charged : (v : VirtualLink) (ticks : List ℕ) (a : Account) (t : ℕ) → a .tick ≤ t → bag v ≤ replenished v a t .credit → Spent v ticks a
-    → Spent v (ticks ++ (t ∷ [])) (charged v (replenished v a t))
+pub spent-charged : (v : VirtualLink) (ticks : List ℕ) (a : Account) (t : ℕ) → a .tick ≤ t → bag v ≤ replenished (bag v) (v .jitter) a t .credit → Spent v ticks a
+    → Spent v (ticks ++ (t ∷ [])) (charged (bag v) (replenished (bag v) (v .jitter) a t))
 unfolding replenished charged KeepBagAndJitter
 spent-charged v ticks a t l c s = record { keeping = keeps; owed = owes }
   where
-    owes : (j d : ℕ) → suc (j + d) ≡ length (ticks ++ (t ∷ [])) → getD (ticks ++ (t ∷ [])) j 0 + d * bag v + charged v (replenished v a t) .credit ≤ v .jitter + t
+    owes : (j d : ℕ) → suc (j + d) ≡ length (ticks ++ (t ∷ [])) → getD (ticks ++ (t ∷ [])) j 0 + d * bag v + charged (bag v) (replenished (bag v) (v .jitter) a t) .credit ≤ v .jitter + t
     owes j zero e =
         let k : j ≡ length ticks = omega (arith, one-more ticks t) in
         rw (k, getD-append-seam ticks t [] 0) (omega arith)

@@ -12,31 +12,32 @@ use Rattle.model.specs.Units.{occupied}
 use Rattle.model.specs.Link.{VirtualLink, bag, linkAt}
 use Rattle.model.specs.Table.{Table}
 use Rattle.model.specs.Bounds.{longest, blocking, hold}
-use Rattle.model.specs.Machine.{Frame, Scheduler, Departure, advance, stored}
-use Rattle.model.specs.Report.{Account, Port, accountAt, fresh, Report, wait, frame, Judged, charged, storedIf, withLineTick, arrived, Call, Stepped}
+use Rattle.model.specs.Machine.{Frame, Scheduler, Departure, advance}
+use Rattle.model.specs.Port.{Account, Port, accountAt, fresh}
+use Rattle.model.specs.Report.{Report, wait, frame, Judged, storedIf, arrived, Call, Stepped}
 use Rattle.model.specs.Run.{Entry, run, accepted, frameIf, passedBy, departuresBy, heldFrames, ticksOf, Always, start, then}
-use Rattle.model.specs.Promises.{Leaving, Spaced, over, next, allDepartures, DeparturesInTime, DeparturesSpaced, PassedKeep}
+use Rattle.model.specs.Promises.{Leaving, Spaced, over, allDepartures, DeparturesInTime, DeparturesSpaced, PassedKeep}
 use Rattle.model.proofs.Holds.{HasBounds, has-bounds}
 use Rattle.model.proofs.Curves.{occupied-weight}
-use Rattle.model.proofs.Gate.{gateOf, numbers-apart, after-set, full-at}
+use Rattle.model.proofs.Gate.{numbers-apart, renewed, reduced, after-set, full-at}
 use Rattle.model.proofs.Keeping.{Spent, spent-start, spent-policed, spent-charged}
 use Rattle.model.proofs.ValidTable.{Valid, valid}
 use Rattle.model.proofs.BusyPeriod.{Sound}
 use Rattle.model.proofs.Backlog.{level-hold}
 use Rattle.model.proofs.Departures.{ticks-leaving, FreeFrom, ticks-apart}
-use Rattle.model.proofs.Stepping.{Admitted, renewed, Judgement, filters, polices, drops, stores, Timely, movedTo, freedBy, Stepping, refuses, waits, frames, stepping}
+use Rattle.model.proofs.Stepping.{Admitted, Judgement, filters, polices, drops, stores, Timely, reached, freedBy, Stepping, refuses, waits, frames, stepping}
 use Rattle.model.proofs.Log.{entryOf, taken, declined, departures-taken, departures-declined, frame-declined, passedFrames}
 use Rattle.model.proofs.Invariant.{Invariant, run-kept}
 use Rattle.model.proofs.Levels.{upPassed, ownPassed, Leveled, tick-leveled}
-use Rattle.model.proofs.Demand.{ticks-none, ticks-same, ticks-other, Kept, run-demand}
+use Rattle.model.proofs.Demand.{ticks-none, ticks-same, ticks-other, DemandKept, run-demand}
 
 -- ---- each departure in time
-module _ (t : Table) (b : HasBounds t) (s : Port) (log : List Entry) (k : Kept t s log) where
+module _ (t : Table) (b : HasBounds t) (s : Port) (log : List Entry) (k : DemandKept t s log) where
   advance-leaving : (time : ℕ) → Leaving t (heldFrames log) (freedBy s time)
   unfolding advance
   advance-leaving time =
       ticks-leaving t (longest t) (Leveled t (passedFrames t log) (s .scheduler .clock))
-      (tick-leveled t b (passedFrames t log) (s .scheduler .clock) (gateOf s) (k .invariant .good))
+      (tick-leveled t b (passedFrames t log) (s .scheduler .clock) (s .gate) (k .invariant .good))
       (λ st x. x .sound)
       (λ st x p m. level-hold p (blocking t p) (hold t p) (upPassed p (passedFrames t log)) (ownPassed p (passedFrames t log)) st (x .levels p m) p (le-refl p))
       (time - s .scheduler .clock) (heldFrames log) (s .scheduler)
@@ -72,7 +73,7 @@ module _ (t : Table) (s : Port) (ds : List Departure) (sound : Sound (longest t)
       let a = ticks-apart (longest t) (time - s .scheduler .clock) (k .last) (s .scheduler) sound (k .free) in
       record { last = a .final; spaced = λ more x. rw append-assoc (k .spaced _ (a .spaced more x)); free = a .free }
 
-  judged-sparse : (time line number len : ℕ) {j : Judged} → Judgement t (withLineTick (movedTo s time) line time) time line number len j → Sparse (ds ++ freedBy s time) (j .port .scheduler)
+  judged-sparse : (time line number len : ℕ) {j : Judged} → Judgement t (reached s time line) time line number len j → Sparse (ds ++ freedBy s time) (j .port .scheduler)
   unfolding storedIf
   judged-sparse time line number len filters = advance-sparse time
   judged-sparse time line number len (polices i a c) = advance-sparse time
@@ -100,8 +101,8 @@ departures-spaced t e calls = rw append-nil at (run-sparse t (valid t e) calls .
 abbrev Metered : Table → List Account → List Entry → Type 0
 Metered t accounts log = (i : ℕ) → i < length (t .links) → Spent (linkAt (t .links) i) (ticksOf passedBy (linkAt (t .links) i .number) log) (accountAt accounts i)
 
-module _ (t : Table) (v : Valid t) (s : Port) (log : List Entry) (inv : Invariant t s log) (k : Metered t (s .accounts) log) where
-  none-passes : (e : Entry) → passedBy e ≡ none → Metered t (s .accounts) (e ∷ log)
+module _ (t : Table) (v : Valid t) (s : Port) (log : List Entry) (inv : Invariant t s log) (k : Metered t (s .gate .accounts) log) where
+  none-passes : (e : Entry) → passedBy e ≡ none → Metered t (s .gate .accounts) (e ∷ log)
   none-passes e x i l = rw (ticks-none passedBy (linkAt (t .links) i .number) e log x) (k i l)
 
   module _ (time line number len : ℕ) (timely : Timely s time) (i : ℕ) (a : Admitted t line number len i) where
@@ -111,47 +112,47 @@ module _ (t : Table) (v : Valid t) (s : Port) (log : List Entry) (inv : Invarian
     abbrev it : Frame
     it = arrived number len time
 
-    ticked : accountAt (s .accounts) i .tick ≤ time
+    ticked : accountAt (s .gate .accounts) i .tick ≤ time
     ticked = omega (arith, inv .good occupied occupied-weight (λ _. true) .account-past i (a .at-place), timely .from)
 
-    abbrev own : Spent vl (ticksOf passedBy (vl .number) log) (accountAt (s .accounts) i)
+    abbrev own : Spent vl (ticksOf passedBy (vl .number) log) (accountAt (s .gate .accounts) i)
     own = k i (a .at-place)
 
     set-metered : (e : Entry) (account : Account) → Spent vl (ticksOf passedBy (vl .number) (e ∷ log)) account
         → ((j : ℕ) → j < length (t .links) → (number ≡ linkAt (t .links) j .number → ⊥) → ticksOf passedBy (linkAt (t .links) j .number) (e ∷ log) ≡ ticksOf passedBy (linkAt (t .links) j .number) log)
-        → Metered t (set (s .accounts) i account) (e ∷ log)
+        → Metered t (set (s .gate .accounts) i account) (e ∷ log)
     set-metered e account here others =
-        after-set (λ j account. Spent (linkAt (t .links) j) (ticksOf passedBy (linkAt (t .links) j .number) (e ∷ log)) account) (length (t .links)) (s .accounts) (record { credit = 0; tick = 0 }) i account
+        after-set (λ j account. Spent (linkAt (t .links) j) (ticksOf passedBy (linkAt (t .links) j .number) (e ∷ log)) account) (length (t .links)) (s .gate .accounts) (record { credit = 0; tick = 0 }) i account
         (inv .good occupied occupied-weight (λ _. true) .accounts-length) (a .at-place) here
         (λ j l n. rw (others j l (λ y. numbers-apart (t .links) (v .rising) j i l (a .at-place) n (sym (a .named ∙ y)))) (k j l))
 
-    policed-metered : (e : Entry) → passedBy e ≡ none → Metered t (set (s .accounts) i (renewed t s i time)) (e ∷ log)
+    policed-metered : (e : Entry) → passedBy e ≡ none → Metered t (set (s .gate .accounts) i (renewed (t .links) (s .gate) i time)) (e ∷ log)
     policed-metered e x =
-        set-metered e (renewed t s i time)
-        (rw (ticks-none passedBy (vl .number) e log x) (spent-policed vl (ticksOf passedBy (vl .number) log) (accountAt (s .accounts) i) time ticked own))
+        set-metered e (renewed (t .links) (s .gate) i time)
+        (rw (ticks-none passedBy (vl .number) e log x) (spent-policed vl (ticksOf passedBy (vl .number) log) (accountAt (s .gate .accounts) i) time ticked own))
         (λ j l n. ticks-none passedBy (linkAt (t .links) j .number) e log x)
 
-    passed-metered : bag vl ≤ renewed t s i time .credit → (e : Entry) → passedBy e ≡ some it → Metered t (set (s .accounts) i (charged vl (renewed t s i time))) (e ∷ log)
+    passed-metered : bag vl ≤ renewed (t .links) (s .gate) i time .credit → (e : Entry) → passedBy e ≡ some it → Metered t (set (s .gate .accounts) i (reduced (t .links) (s .gate) i time)) (e ∷ log)
     passed-metered c e x =
-        set-metered e (charged vl (renewed t s i time))
-        (rw (ticks-same passedBy (vl .number) e log it x (sym (a .named))) (spent-charged vl (ticksOf passedBy (vl .number) log) (accountAt (s .accounts) i) time ticked c own))
+        set-metered e (reduced (t .links) (s .gate) i time)
+        (rw (ticks-same passedBy (vl .number) e log it x (sym (a .named))) (spent-charged vl (ticksOf passedBy (vl .number) log) (accountAt (s .gate .accounts) i) time ticked c own))
         (λ j l n. ticks-other passedBy (linkAt (t .links) j .number) e log it x n)
 
-  judged-metered : (time line number len : ℕ) → Timely s time → (list : List ℕ) {j : Judged} → Judgement t (withLineTick (movedTo s time) line time) time line number len j
-      → Metered t (j .port .accounts) (taken (frame time line number len) (j .verdict) (freedBy s time) list ∷ log)
+  judged-metered : (time line number len : ℕ) → Timely s time → (list : List ℕ) {j : Judged} → Judgement t (reached s time line) time line number len j
+      → Metered t (j .port .gate .accounts) (taken (frame time line number len) (j .verdict) (freedBy s time) list ∷ log)
   unfolding storedIf passedBy frameIf accepted
   judged-metered time line number len timely list filters = none-passes (taken (frame time line number len) 1 (freedBy s time) list) refl
   judged-metered time line number len timely list (polices i a c) = policed-metered time line number len timely i a (taken (frame time line number len) 2 (freedBy s time) list) refl
   judged-metered time line number len timely list (drops i a c full) = passed-metered time line number len timely i a c (taken (frame time line number len) 3 (freedBy s time) list) refl
   judged-metered time line number len timely list (stores i a c room) = passed-metered time line number len timely i a c (taken (frame time line number len) 0 (freedBy s time) list) refl
 
-  step-metered : (list : List ℕ) {r : Report} {x : Stepped} → Stepping t s list r x → Metered t (x .port .accounts) (entryOf r x ∷ log)
+  step-metered : (list : List ℕ) {r : Report} {x : Stepped} → Stepping t s list r x → Metered t (x .port .gate .accounts) (entryOf r x ∷ log)
   unfolding passedBy frameIf
   step-metered list (refuses {r = r} n) = none-passes (declined r n list) (frame-declined (λ verdict. not (eqb verdict 1) && not (eqb verdict 2)) r n)
   step-metered list (waits time timely) = none-passes (taken (wait time) 0 (freedBy s time) list) refl
   step-metered list (frames time line number len timely arrives x) = judged-metered time line number len timely list x
 
-run-metered : (t : Table) → Valid t → (calls : List Call) → Metered t (run t calls .port .accounts) (run t calls .log)
+run-metered : (t : Table) → Valid t → (calls : List Call) → Metered t (run t calls .port .gate .accounts) (run t calls .log)
 unfolding run fresh ticksOf
 run-metered t v [] = λ i l. rw (full-at (t .links) i l) (spent-start (linkAt (t .links) i))
 run-metered t v (c ∷ calls) =

@@ -15,7 +15,7 @@ use Rattle.model.specs.Link.{linkAt, placeOf}
 use Rattle.model.specs.Table.{Table}
 use Rattle.model.specs.Machine.{Frame, Sender, idle, sending, Scheduler, Departure, blankFrame, queueOf, headOf, withoutHead, queuedLast, highestWaiting, startIfAny, started, freedIf, byteLeaves, tick, ticks}
 use Rattle.model.specs.Run.{without, withoutAll, isPriority, hasPriority, only}
-use Rattle.model.proofs.BusyPeriod.{Under, Sends, Sound}
+use Rattle.model.proofs.BusyPeriod.{Under, SendsInTime, Sound}
 use Rattle.model.proofs.BusySteps.{begins, tick-sound}
 
 -- ---- one frame goes
@@ -130,10 +130,10 @@ module _ (t : Table) (limit : ℕ → ℕ) (l : List Frame) where
   wakes-booked c qs (some q) e n u k = leaves-booked c qs q c n (u q e) k
 
   pub tick-booked : (st : Scheduler) → Sound limit st → Booked t l (st .queues) → Booked t (withoutAll (tick st .departures) l) (tick st .scheduler .queues)
-  unfolding tick started Sends
+  unfolding tick started SendsInTime
   tick-booked st s k = go (st .sender) (s .sends)
     where
-      go : (z : Sender) → Sends (st .clock) (st .queues) z
+      go : (z : Sender) → SendsInTime (st .clock) (st .queues) z
           → Booked t (withoutAll (byteLeaves (st .clock) (st .queues) (started (st .clock) (st .queues) z) .departures) l) (byteLeaves (st .clock) (st .queues) (started (st .clock) (st .queues) z) .scheduler .queues)
       go idle m = wakes-booked (st .clock) (st .queues) (highestWaiting (st .queues)) refl (s .eight) (λ q e. begins limit (st .clock) (st .queues) q (s .frames) e) k
       go (sending q b) m = leaves-booked (st .clock) (st .queues) q b (s .eight) (m .1) k

@@ -9,11 +9,12 @@ use Rattle.model.specs.Units.{occupied}
 use Rattle.model.specs.Link.{VirtualLink}
 use Rattle.model.specs.Table.{Table}
 use Rattle.model.specs.Bounds.{ofPriority, upTo, ownArrivals, upArrivals, longest, blocking, hold, bound}
-use Rattle.model.specs.Machine.{Frame, Scheduler, at, queueOf, tick, ticks, advance, stored, held}
+use Rattle.model.specs.Machine.{Frame, Scheduler, queueOf, tick, advance, stored, held}
+use Rattle.model.specs.Port.{Gate}
 use Rattle.model.proofs.Curves.{wire-weight, occupied-weight}
 use Rattle.model.proofs.Holds.{hold-is, HasBounds}
 use Rattle.model.proofs.Passed.{Passed, passedFrame, total, setLength}
-use Rattle.model.proofs.Gate.{Gate, later-good, gate-bound, total-new}
+use Rattle.model.proofs.Gate.{later-good, gate-bound, total-new}
 use Rattle.model.proofs.BusyPeriod.{Sound, Level}
 use Rattle.model.proofs.BusySteps.{tick-sound, tick-level, tick-clock, ticks-keep, more-level, stored-level}
 use Rattle.model.proofs.Backlog.{level-bound, blocks}

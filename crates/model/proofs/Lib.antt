@@ -27,11 +27,13 @@ pub mod FramesFreed
 pub mod QueueSteps
 pub mod Ledger
 pub mod Departures
+pub mod Refusals
 pub mod Stepping
 pub mod Lined
 pub mod Log
 pub mod Invariant
 pub mod Fitness
+pub mod FitKept
 pub mod Levels
 pub mod Demand
 pub mod Later

@@ -14,7 +14,7 @@ use Rattle.model.specs.Link.{linkAt, placeOf}
 use Rattle.model.specs.Table.{Table}
 use Rattle.model.specs.Bounds.{ofPriority, longest}
 use Rattle.model.specs.Machine.{Frame, bytes, held}
-use Rattle.model.specs.Report.{namesLink, framesFit}
+use Rattle.model.specs.Fitness.{namesLink, framesFit}
 use Rattle.model.proofs.Checks.{all-true, true-all}
 use Rattle.model.proofs.Curves.{occupied-weight, greatest-ge}
 use Rattle.model.proofs.Gate.{mem-at}
@@ -59,15 +59,15 @@ fit-lined t q c low (f ∷ l) e =
     next {low = low} {f = f} (all .0) (leb-true low (f .arrival) (all .1 .0)) (leb-true (f .arrival) c (all .1 .1 .0)) (fit-lined t q c (f .arrival) l (all .1 .1 .1 .0))
 
 -- ---- what its name tells of a frame
-pub record Named (t : Table) (q len : ℕ) : Type 0 where
+pub record NamedFrame (t : Table) (q len : ℕ) : Type 0 where
   pub long : 84 ≤ len
   pub short : len ≤ longest t q
 
-pub named : (t : Table) (q n len : ℕ) → Valid t → namesLink t q len (placeOf n (t .links)) ≡ true → Named t q len
+pub named : (t : Table) (q n len : ℕ) → Valid t → namesLink t q len (placeOf n (t .links)) ≡ true → NamedFrame t q len
 unfolding namesLink longest ofPriority
 named t q n len v e = go (placeOf n (t .links)) refl e
   where
-    go : (o : Option ℕ) → placeOf n (t .links) ≡ o → namesLink t q len o ≡ true → Named t q len
+    go : (o : Option ℕ) → placeOf n (t .links) ≡ o → namesLink t q len o ≡ true → NamedFrame t q len
     go none x y = absurd (let z : _≡_ {A = ℕ} 0 1 = cc in omega arith)
     go (some i) x y =
         let all = all-true _ y in
@@ -89,5 +89,5 @@ lined-count t q c low (f ∷ l) v (next n a b r) =
 pub lined-meets : (t : Table) (q c low : ℕ) (l : List Frame) → Valid t → Lined t q c low l → Each (Meets (longest t q) c) l
 lined-meets t q c low [] v over = done
 lined-meets t q c low (f ∷ l) v (next n a b r) =
-    let m : Named t q (f .length) = named t q (f .number) (f .length) v n in
+    let m : NamedFrame t q (f .length) = named t q (f .number) (f .length) v n in
     also {a = f} (record { positive = omega (arith, m .long); short = m .short; past = b }) (lined-meets t q c (f .arrival) l v r)

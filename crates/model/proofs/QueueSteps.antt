@@ -10,7 +10,7 @@ use lib.Dec.{eqb}
 use lib.ListN.{drop}
 use Rattle.model.specs.Basics.{Each}
 use Rattle.model.specs.Machine.{Frame, Sender, idle, sending, Scheduler, queueOf, headOf, highestWaiting, startIfAny, started, freedIf, byteLeaves, tick, advance, bytes, held}
-use Rattle.model.proofs.BusyPeriod.{Under, Sends, Meets, Sound, set-keeps}
+use Rattle.model.proofs.BusyPeriod.{Under, SendsInTime, Meets, Sound, set-keeps}
 use Rattle.model.proofs.BusySteps.{begins, tick-sound, ticks-clock, ticks-keep}
 
 module _ (Q : ℕ → List Frame → Type 0) (tail : (q : ℕ) (l : List Frame) → Q q l → Q q (drop 1 l)) where
@@ -29,10 +29,10 @@ module _ (Q : ℕ → List Frame → Type 0) (tail : (q : ℕ) (l : List Frame) 
   wakes-keeps limit c qs m (some r) x e q = leaves-keeps c qs r c (begins limit c qs r m x) e q
 
   tick-keeps : (limit : ℕ → ℕ) (st : Scheduler) → Sound limit st → ((q : ℕ) → Q q (queueOf (st .queues) q)) → (q : ℕ) → Q q (queueOf (tick st .scheduler .queues) q)
-  unfolding tick started Sends
+  unfolding tick started SendsInTime
   tick-keeps limit st k e q = go (st .sender) (k .sends)
     where
-      go : (z : Sender) → Sends (st .clock) (st .queues) z → Q q (queueOf (byteLeaves (st .clock) (st .queues) (started (st .clock) (st .queues) z) .scheduler .queues) q)
+      go : (z : Sender) → SendsInTime (st .clock) (st .queues) z → Q q (queueOf (byteLeaves (st .clock) (st .queues) (started (st .clock) (st .queues) z) .scheduler .queues) q)
       go idle m = wakes-keeps limit (st .clock) (st .queues) (k .frames) (highestWaiting (st .queues)) refl e q
       go (sending r s) m = leaves-keeps (st .clock) (st .queues) r s (m .1) e q
 

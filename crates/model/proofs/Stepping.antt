@@ -13,8 +13,11 @@ use Rattle.model.specs.Units.{lastTick, leastLength, greatestLength, occ
 use Rattle.model.specs.Link.{VirtualLink, bag, linkAt, placeOf}
 use Rattle.model.specs.Table.{Table, sizeOf}
 use Rattle.model.specs.Machine.{Frame, Departure, queueOf, advance, held}
-use Rattle.model.specs.Report.{Account, Port, accountAt, lineTick, Report, wait, frame, tickOf, frameChecks, reportChecks, roomCheck, reportRefusal, Judged, judged, admits, admitted, replenished, charged, withAccount, hasRoom, storedIf, passedIf, judge, Stepped, withScheduler, withLineTick, arrived, judgeReport, listed, answered, refusal, acceptedOr, step}
-use Rattle.model.proofs.Checks.{all-true, Numbered, NoneMet, none-met}
+use Rattle.model.specs.Port.{Port, lineTick, withScheduler, withGate, withLineTick, withAccount}
+use Rattle.model.specs.Report.{Report, wait, frame, tickOf, frameChecks, reportChecks, allChecks, reportRefusal, Judged, judged, admits, admitted, Checked, checkedIf, police, policeAt, hasRoom, storedIf, store, passedIf, judge, Stepped, arrived, judgeReport, listed, answered, refusal, acceptedOr, step}
+use Rattle.model.proofs.Checks.{all-true, NoneMet}
+use Rattle.model.proofs.Gate.{renewed, reduced}
+use Rattle.model.proofs.Refusals.{unrefused}
 
 -- ---- the place of a number
 pub record Placed (n : ℕ) (links : List VirtualLink) (i : ℕ) : Type 0 where
@@ -47,12 +50,12 @@ pub record Admitted (t : Table) (line number len i : ℕ) : Type 0 where
   pub not-shorter : linkAt (t .links) i .least ≤ len
   pub not-longer : len ≤ linkAt (t .links) i .greatest
 
--- the account of the link at place i, replenished to a tick
-abbrev pub renewed : Table → Port → ℕ → ℕ → Account
-renewed t s i time = replenished (linkAt (t .links) i) (accountAt (s .accounts) i) time
+-- the port with the account of the link at place i replenished to a tick; and charged
+abbrev pub policedPort : Table → Port → ℕ → ℕ → Port
+policedPort t s i time = withGate s (withAccount (s .gate) i (renewed (t .links) (s .gate) i time))
 
 abbrev pub chargedPort : Table → Port → ℕ → ℕ → Port
-chargedPort t s i time = withAccount s i (charged (linkAt (t .links) i) (renewed t s i time))
+chargedPort t s i time = withGate s (withAccount (s .gate) i (reduced (t .links) (s .gate) i time))
 
 abbrev pub priorityAt : Table → ℕ → ℕ
 priorityAt t i = linkAt (t .links) i .priority
@@ -60,29 +63,33 @@ priorityAt t i = linkAt (t .links) i .priority
 module _ (t : Table) (s : Port) (time line number len : ℕ) where
   pub data Judgement : Judged → Type 0 where
     filters : Judgement (judged s 1)
-    polices : (i : ℕ) → Admitted t line number len i → renewed t s i time .credit < bag (linkAt (t .links) i) → Judgement (judged (withAccount s i (renewed t s i time)) 2)
-    drops : (i : ℕ) → Admitted t line number len i → bag (linkAt (t .links) i) ≤ renewed t s i time .credit
+    polices : (i : ℕ) → Admitted t line number len i → renewed (t .links) (s .gate) i time .credit < bag (linkAt (t .links) i) → Judgement (judged (policedPort t s i time) 2)
+    drops : (i : ℕ) → Admitted t line number len i → bag (linkAt (t .links) i) ≤ renewed (t .links) (s .gate) i time .credit
         → sizeOf t (priorityAt t i) < held (queueOf (s .scheduler .queues) (priorityAt t i)) + occupied len → Judgement (judged (chargedPort t s i time) 3)
-    stores : (i : ℕ) → Admitted t line number len i → bag (linkAt (t .links) i) ≤ renewed t s i time .credit
+    stores : (i : ℕ) → Admitted t line number len i → bag (linkAt (t .links) i) ≤ renewed (t .links) (s .gate) i time .credit
         → held (queueOf (s .scheduler .queues) (priorityAt t i)) + occupied len ≤ sizeOf t (priorityAt t i)
         → Judgement (storedIf true (chargedPort t s i time) (priorityAt t i) (arrived number len time))
 
   abbrev it : Frame
   it = arrived number len time
 
-  storing : (i : ℕ) → Admitted t line number len i → bag (linkAt (t .links) i) ≤ renewed t s i time .credit
-      → (x : Bool) → hasRoom t (chargedPort t s i time) (priorityAt t i) it ≡ x → Judgement (storedIf x (chargedPort t s i time) (priorityAt t i) it)
+  storing : (i : ℕ) → Admitted t line number len i → bag (linkAt (t .links) i) ≤ renewed (t .links) (s .gate) i time .credit
+      → (x : Bool) → hasRoom (sizeOf t (priorityAt t i)) (queueOf (s .scheduler .queues) (priorityAt t i)) it ≡ x → Judgement (storedIf x (chargedPort t s i time) (priorityAt t i) it)
   unfolding hasRoom storedIf
   storing i a c true e = stores i a c (leb-true (held (queueOf (s .scheduler .queues) (priorityAt t i)) + occupied len) (sizeOf t (priorityAt t i)) e)
   storing i a c false e = drops i a c (leb-false (held (queueOf (s .scheduler .queues) (priorityAt t i)) + occupied len) (sizeOf t (priorityAt t i)) e)
 
-  passing : (i : ℕ) → Admitted t line number len i → (x : Bool) → leb (bag (linkAt (t .links) i)) (renewed t s i time .credit) ≡ x → Judgement (passedIf x t s i (renewed t s i time) it)
-  unfolding passedIf
-  passing i a true e = storing i a (leb-true (bag (linkAt (t .links) i)) (renewed t s i time .credit) e) (hasRoom t (chargedPort t s i time) (priorityAt t i) it) refl
-  passing i a false e = polices i a (leb-false (bag (linkAt (t .links) i)) (renewed t s i time .credit) e)
+  abbrev checked : ℕ → Bool → Checked
+  checked i x = checkedIf x (bag (linkAt (t .links) i)) (renewed (t .links) (s .gate) i time)
+
+  passing : (i : ℕ) → Admitted t line number len i → (x : Bool) → leb (bag (linkAt (t .links) i)) (renewed (t .links) (s .gate) i time .credit) ≡ x
+      → Judgement (passedIf (checked i x .passed) t (withGate s (withAccount (s .gate) i (checked i x .account))) (priorityAt t i) it)
+  unfolding checkedIf passedIf store
+  passing i a true e = storing i a (leb-true (bag (linkAt (t .links) i)) (renewed (t .links) (s .gate) i time .credit) e) (hasRoom (sizeOf t (priorityAt t i)) (queueOf (s .scheduler .queues) (priorityAt t i)) it) refl
+  passing i a false e = polices i a (leb-false (bag (linkAt (t .links) i)) (renewed (t .links) (s .gate) i time .credit) e)
 
   admission : (i : ℕ) → placeOf number (t .links) ≡ some i → (x : Bool) → admits (linkAt (t .links) i) line len ≡ x → Judgement (judge t s it (cond x (some i) none))
-  unfolding judge admits
+  unfolding judge policeAt police admits
   admission i e true x =
       let all = all-true _ x in
       let p = placed number (t .links) i e in
@@ -95,7 +102,7 @@ module _ (t : Table) (s : Port) (time line number len : ℕ) where
         not-shorter = leb-true (linkAt (t .links) i .least) len (all .1 .0);
         not-longer = leb-true len (linkAt (t .links) i .greatest) (all .1 .1 .0);
       })
-      (leb (bag (linkAt (t .links) i)) (renewed t s i time .credit)) refl
+      (leb (bag (linkAt (t .links) i)) (renewed (t .links) (s .gate) i time .credit)) refl
   admission i e false x = filters
 
   pub judgement : Judgement (judge t s it (admitted t line len (placeOf number (t .links))))
@@ -117,11 +124,14 @@ pub record Arrives (t : Table) (s : Port) (time line len : ℕ) : Type 0 where
   pub line-in : line < t .lines
   pub long : leastLength ≤ len
   pub short : len ≤ greatestLength
-  pub spaced : lineTick s line + len ≤ time
+  pub spaced : lineTick (s .gate .lineTicks) line + len ≤ time
 
 -- the port at the tick of a report; and with the tick of a frame's line set
 abbrev pub movedTo : Port → ℕ → Port
 movedTo s time = withScheduler s (advance time (s .scheduler) .scheduler)
+
+abbrev pub reached : Port → ℕ → ℕ → Port
+reached s time line = withGate (movedTo s time) (withLineTick (s .gate) line time)
 
 abbrev pub freedBy : Port → ℕ → List Departure
 freedBy s time = advance time (s .scheduler) .departures
@@ -132,12 +142,12 @@ accepts j departures list = record { port = j .port; answer = answered (j .verdi
 pub data Stepping (t : Table) (s : Port) (list : List ℕ) : Report → Stepped → Type 0 where
   refuses : {r : Report} (n : ℕ) → Stepping t s list r (record { port = s; answer = refusal (suc n); list = list })
   waits : (time : ℕ) → Timely s time → Stepping t s list (wait time) (accepts (judged (movedTo s time) 0) (freedBy s time) list)
-  frames : (time line number len : ℕ) → Timely s time → Arrives t s time line len → {j : Judged} → Judgement t (withLineTick (movedTo s time) line time) time line number len j
+  frames : (time line number len : ℕ) → Timely s time → Arrives t s time line len → {j : Judged} → Judgement t (reached s time line) time line number len j
       → Stepping t s list (frame time line number len) (accepts j (freedBy s time) list)
 
 module _ (t : Table) (s : Port) (list : List ℕ) where
-  accepting : (r : Report) → NoneMet (reportChecks t s r ++ (roomCheck s (length list) ∷ [])) → Stepping t s list r (acceptedOr 0 t s (record { report = r; list = list }))
-  unfolding reportChecks frameChecks tickOf acceptedOr judgeReport
+  accepting : (r : Report) → NoneMet (allChecks t s r (length list)) → Stepping t s list r (acceptedOr 0 t s (record { report = r; list = list }))
+  unfolding allChecks reportChecks frameChecks tickOf acceptedOr judgeReport
   accepting (wait time) pass = waits time (record { from = ltb-false time (s .scheduler .clock) (pass .1 .1 .0); soon = ltb-false lastTick time (pass .1 .0) })
   accepting (frame time line number len) pass =
       let all = all-true _ (not-false _ (pass .1 .1 .1 .1 .0)) in
@@ -147,19 +157,14 @@ module _ (t : Table) (s : Port) (list : List ℕ) where
         line-in = leb-false (t .lines) line (pass .1 .1 .1 .0);
         long = leb-true leastLength len (all .0);
         short = leb-true len greatestLength (all .1 .0);
-        spaced = ltb-false time (lineTick s line + len) (pass .1 .1 .1 .1 .1 .0);
+        spaced = ltb-false time (lineTick (s .gate .lineTicks) line + len) (pass .1 .1 .1 .1 .1 .0);
       })
-      (judgement t (withLineTick (movedTo s time) line time) time line number len)
-
-  numbered : (r : Report) → Numbered 16 (reportChecks t s r ++ (roomCheck s (length list) ∷ []))
-  unfolding reportChecks frameChecks
-  numbered (wait time) = omega arith
-  numbered (frame time line number len) = omega arith
+      (judgement t (reached s time line) time line number len)
 
   pub stepping : (r : Report) → Stepping t s list r (step t s (record { report = r; list = list }))
   unfolding step reportRefusal acceptedOr
   stepping r = go (reportRefusal t s r (length list)) refl
     where
       go : (n : ℕ) → reportRefusal t s r (length list) ≡ n → Stepping t s list r (acceptedOr n t s (record { report = r; list = list }))
-      go zero e = accepting r (none-met 16 (reportChecks t s r ++ (roomCheck s (length list) ∷ [])) (numbered r) e)
+      go zero e = accepting r (unrefused t s r (length list) e)
       go (suc n) e = refuses n

@@ -1,6 +1,6 @@
 -- The theorems of specs/Promises.antt and specs/Examples.antt, each under its name.
 use Rattle.model.specs.Basics.{done, also}
-use Rattle.model.specs.Promises.{ReadsWritten, WritesRead, FileLength, DemandThree, NeverUnfit, CurveGrows, HoldIsSmallest, BoundIsGreatest, NoneAppears, DeparturesInTime, DeparturesSpaced, PassedKeep}
+use Rattle.model.specs.Promises.{ReadsWritten, WritesRead, FileLength, DemandThree, NeverUnfit, FitnessKept, LengthsKept, CurveGrows, HoldIsSmallest, BoundIsGreatest, NoneAppears, DeparturesInTime, DeparturesSpaced, PassedKeep}
 use Rattle.model.specs.Examples.{ExamplesCorrect}
 use Rattle.model.proofs.ReadBack as ReadBack
 use Rattle.model.proofs.FileWrite as FileWrite
@@ -8,6 +8,7 @@ use Rattle.model.proofs.Curves as Curves
 use Rattle.model.proofs.Holds as Holds
 use Rattle.model.proofs.BoundFacts as BoundFacts
 use Rattle.model.proofs.Fitness as Fitness
+use Rattle.model.proofs.FitKept as FitKept
 use Rattle.model.proofs.Demand as Demand
 use Rattle.model.proofs.Later as Later
 use Rattle.model.proofs.Examples as shown
@@ -27,6 +28,12 @@ demand-three = Demand.demand-three
 
 pub never-unfit : NeverUnfit
 never-unfit = Fitness.never-unfit
+
+pub fitness-kept : FitnessKept
+fitness-kept = FitKept.fitness-kept
+
+pub lengths-kept : LengthsKept
+lengths-kept = FitKept.lengths-kept
 
 pub curve-grows : CurveGrows
 curve-grows = Curves.curve-grows

@@ -9,7 +9,8 @@ use borrow.Author.Tests.{le-leb, lt-leb, eq-eqb, ne-eqb}
 use Rattle.model.specs.Basics.{provided}
 use Rattle.model.specs.Link.{VirtualLink, bag}
 use Rattle.model.specs.Arrival.{frameCurve}
-use Rattle.model.specs.Report.{Account, fullAccount, replenished, charged}
+use Rattle.model.specs.Port.{Account, fullAccount}
+use Rattle.model.specs.Report.{replenished, charged}
 use Rattle.model.proofs.Curves.{bag-positive, provided-zero}
 use Rattle.model.proofs.Passed.{Passed, total, counts, cnt}
 
@@ -25,11 +26,11 @@ credited-start v = record { bound = λ s l. omega arith; past = λ s l. refl }
 pub credit-top : (v : VirtualLink) (h : List Passed) (a : Account) → Credited v h a → a .credit ≤ bag v + v .jitter
 credit-top v h a c = omega (arith, c .bound (a .tick) (le-refl (a .tick)))
 
-pub policed-keeps : (v : VirtualLink) (h : List Passed) (a : Account) (t : ℕ) → a .tick ≤ t → Credited v h a → Credited v h (replenished v a t)
+pub policed-keeps : (v : VirtualLink) (h : List Passed) (a : Account) (t : ℕ) → a .tick ≤ t → Credited v h a → Credited v h (replenished (bag v) (v .jitter) a t)
 unfolding replenished
 policed-keeps v h a t l c = record { bound = λ s m. go s m (decLe s (a .tick)); past = λ s m. c .past s (omega arith) }
   where
-    go : (s : ℕ) → s ≤ t → Dec (s ≤ a .tick) → cnt v h s * bag v + replenished v a t .credit ≤ bag v + v .jitter + (t - s)
+    go : (s : ℕ) → s ≤ t → Dec (s ≤ a .tick) → cnt v h s * bag v + replenished (bag v) (v .jitter) a t .credit ≤ bag v + v .jitter + (t - s)
     go s m (yes k) = omega (arith, c .bound s k)
     go s m (no k) = rw (c .past s (lt-of-not-le k)) (omega arith)
 
@@ -48,7 +49,7 @@ cnt-other v h p s n = rw (ne-eqb (v .number) (p .link .number) n) (omega arith)
 
 -- its link's account, replenished to its tick, pays for it
 pub charged-keeps : (v : VirtualLink) (h : List Passed) (a : Account) (p : Passed) → v .number ≡ p .link .number → a .tick ≡ p .tick → bag v ≤ a .credit
-    → Credited v h a → Credited v (p ∷ h) (charged v a)
+    → Credited v h a → Credited v (p ∷ h) (charged (bag v) a)
 unfolding charged
 charged-keeps v h a p e l b c =
     record {

@@ -7,6 +7,8 @@ pub mod TableFile
 pub mod Arrival
 pub mod Bounds
 pub mod Machine
+pub mod Port
+pub mod Fitness
 pub mod Report
 pub mod Sheet
 pub mod Run

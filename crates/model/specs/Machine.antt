@@ -87,12 +87,13 @@ byteLeaves m queues (sending p start) = freedIf (eqb (start + headOf queues p .l
 unfoldable pub tick : Scheduler → Advance
 tick s = byteLeaves (s .clock) (s .queues) (started (s .clock) (s .queues) (s .sender))
 
-abbrev pub joined : List Departure → Advance → Advance
-joined departures a = record { departures = departures ++ a .departures; scheduler = a .scheduler }
+-- an advance with departures before its own
+abbrev pub preceded : List Departure → Advance → Advance
+preceded departures a = record { departures = departures ++ a .departures; scheduler = a .scheduler }
 
 unfoldable pub ticks : ℕ → Scheduler → Advance
 ticks zero s = advanced [] s
-ticks (suc k) s = let a = tick s in joined (a .departures) (ticks k (a .scheduler))
+ticks (suc k) s = let a = tick s in preceded (a .departures) (ticks k (a .scheduler))
 
 -- "Advance to T, for each tick m from clock to T − 1"
 unfoldable pub advance : ℕ → Scheduler → Advance

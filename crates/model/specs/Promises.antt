@@ -12,7 +12,9 @@ use Rattle.model.specs.TableFile.{tableBytes, readTable, fileLength}
 use Rattle.model.specs.Arrival.{arrivalCurve}
 use Rattle.model.specs.Bounds.{ofPriority, upArrivals, blocking, holdOf, backlog, boundsRefusal, hold, bound}
 use Rattle.model.specs.Machine.{Frame, Departure, advance, framesHeld}
-use Rattle.model.specs.Report.{Port, fit, Call}
+use Rattle.model.specs.Port.{Port}
+use Rattle.model.specs.Fitness.{fit}
+use Rattle.model.specs.Report.{Call, step}
 use Rattle.model.specs.Run.{Entry, run, passedBy, departuresBy, without, heldFrames, hasPriority, ticksOf, KeepBagAndJitter, Always, Demand3}
 
 -- "The table file reads and writes by the layout, each undoing the other"
@@ -33,6 +35,18 @@ DemandThree = (t : Table) → boundsRefusal t ≡ 0 → (calls : List Call) → 
 -- from a fresh port no report is refused with 10, whatever the list
 abbrev pub NeverUnfit : Type 0
 NeverUnfit = (t : Table) → tableRefusal t ≡ 0 → (calls : List Call) → (fit t (run t calls .port) ≡ true) × Always (λ e log. e .answer .refused ≡ 10 → ⊥) (run t calls .log)
+
+-- a report keeps fitness, from every fit port with eight queues and eight marks, as every port record has; and it keeps those eight
+abbrev pub FitnessKept : Type 0
+FitnessKept = (t : Table) (s : Port) (c : Call) → length (s .scheduler .queues) ≡ 8 → length (s .marks) ≡ 8 → fit t s ≡ true
+    → (fit t (step t s c .port) ≡ true) × (length (step t s c .port .scheduler .queues) ≡ 8) × (length (step t s c .port .marks) ≡ 8)
+
+-- whatever the port, a report keeps the number of marks, line ticks and accounts
+abbrev pub LengthsKept : Type 0
+LengthsKept = (t : Table) (s : Port) (c : Call)
+    → (length (step t s c .port .marks) ≡ length (s .marks))
+    × (length (step t s c .port .gate .lineTicks) ≡ length (s .gate .lineTicks))
+    × (length (step t s c .port .gate .accounts) ≡ length (s .gate .accounts))
 
 -- a weight on lengths: it grows with the length and is never more
 pub record Weight (weight : ℕ → ℕ) : Type 0 where

@@ -1,110 +1,17 @@
--- The port: fresh, fit, and what a report does: refusals in order, advance, filter, police check, store.
+-- What a report does: refusals in order, advance, filter, police check, store.
 use mathlib.Core.Bool.{Bool, true, false, cond, not}
 use mathlib.Core.Option.{Option, none, some}
-use mathlib.Core.List.{List, [], _∷_, _++_, map, flatMap}
+use mathlib.Core.List.{List, [], _∷_, _++_, flatMap}
 use Prim.Native.Nat.{ℕ, zero, suc, _+_, _-_, _*_, min, max}
 use lib.Dec.{eqb, leb, ltb}
-use lib.ListN.{length, getD, set, drop, replicate}
-use Rattle.model.specs.Basics.{allTo, allHold, Check, check, firstMet}
-use Rattle.model.specs.Units.{lastTick, leastLength, greatestLength, occupied, mostFrames}
+use lib.ListN.{length, set, drop}
+use Rattle.model.specs.Basics.{allHold, Check, check, firstMet}
+use Rattle.model.specs.Units.{lastTick, leastLength, greatestLength, occupied}
 use Rattle.model.specs.Link.{VirtualLink, bag, linkAt, placeOf}
-use Rattle.model.specs.Table.{Table, sizeOf, tableRefusal}
-use Rattle.model.specs.Machine.{Frame, Sender, idle, sending, Scheduler, Departure, at, queueOf, headOf, advance, queuedLast, stored, held, framesHeld}
-
--- "for each virtual link a credit and its tick": the token bucket of the police check
-pub record Account : Type 0 where
-  pub credit : ℕ
-  pub tick : ℕ
-
--- The state of a port, its table beside it. Mark: the paper's word for the high-water mark of a buffer
-pub record Port : Type 0 where
-  pub scheduler : Scheduler
-  -- for each priority
-  pub marks : List ℕ
-  -- "for each line the tick of its last frame"
-  pub lineTicks : List ℕ
-  -- for each virtual link, in the table's order
-  pub accounts : List Account
-
-abbrev pub blankAccount : Account
-blankAccount = record { credit = 0; tick = 0 }
-
-abbrev pub accountAt : List Account → ℕ → Account
-accountAt accounts i = getD accounts i blankAccount
-
-abbrev pub markOf : Port → ℕ → ℕ
-markOf s p = getD (s .marks) p 0
-
-abbrev pub lineTick : Port → ℕ → ℕ
-lineTick s ℓ = getD (s .lineTicks) ℓ 0
-
--- "Fresh: clock, ticks and marks 0, queues empty, idle, credit B + J"
-abbrev pub fullAccount : VirtualLink → Account
-fullAccount v = record { credit = bag v + v .jitter; tick = 0 }
-
-unfoldable pub fresh : Table → Port
-fresh t =
-    record {
-      scheduler = at 0 (replicate 8 []) idle;
-      marks = replicate 8 0;
-      lineTicks = replicate (t .lines) 0;
-      accounts = map fullAccount (t .links);
-    }
-
--- ---- fitness
-
--- "queued frames name links of their priority within length limits"
-unfoldable pub namesLink : Table → ℕ → ℕ → Option ℕ → Bool
-namesLink t p len none = false
-namesLink t p len (some i) =
-    allHold (
-    eqb (linkAt (t .links) i .priority) p
-    ∷ leb (linkAt (t .links) i .least) len
-    ∷ leb len (linkAt (t .links) i .greatest)
-    ∷ []
-    )
-
--- "arrival ticks rise or stay equal and are ≤ clock"; low is the arrival tick of the frame before
-unfoldable pub framesFit : Table → ℕ → ℕ → ℕ → List Frame → Bool
-framesFit t p clock low [] = true
-framesFit t p clock low (f ∷ frames) =
-    allHold (
-    namesLink t p (f .length) (placeOf (f .number) (t .links))
-    ∷ leb low (f .arrival)
-    ∷ leb (f .arrival) clock
-    ∷ framesFit t p clock (f .arrival) frames
-    ∷ []
-    )
-
--- "a frame being sent heads its queue, arrived by its start, and start < clock < start + length"
-unfoldable pub senderFit : ℕ → List (List Frame) → Sender → Bool
-senderFit clock queues idle = true
-senderFit clock queues (sending p start) =
-    allHold (
-    ltb p 8
-    ∷ ltb 0 (length (queueOf queues p))
-    ∷ leb (headOf queues p .arrival) start
-    ∷ ltb start clock
-    ∷ ltb clock (start + headOf queues p .length)
-    ∷ []
-    )
-
--- "A port record is fit if" all of these hold, in the paper's order
-unfoldable pub fit : Table → Port → Bool
-fit t s =
-    allHold (
-    eqb (tableRefusal t) 0
-    ∷ leb (s .scheduler .clock) lastTick
-    ∷ allTo (λ p. leb (length (queueOf (s .scheduler .queues) p)) mostFrames) 8
-    ∷ allTo (λ p. framesFit t p (s .scheduler .clock) 0 (queueOf (s .scheduler .queues) p)) 8
-    ∷ allTo (λ p. leb (held (queueOf (s .scheduler .queues) p)) (markOf s p)) 8
-    ∷ allTo (λ p. leb (markOf s p) (sizeOf t p)) 8
-    ∷ allTo (λ ℓ. leb (lineTick s ℓ) (s .scheduler .clock)) (t .lines)
-    ∷ allTo (λ i. leb (accountAt (s .accounts) i .tick) (s .scheduler .clock)) (length (t .links))
-    ∷ allTo (λ i. leb (accountAt (s .accounts) i .credit) (bag (linkAt (t .links) i) + linkAt (t .links) i .jitter)) (length (t .links))
-    ∷ senderFit (s .scheduler .clock) (s .scheduler .queues) (s .scheduler .sender)
-    ∷ []
-    )
+use Rattle.model.specs.Table.{Table, sizeOf}
+use Rattle.model.specs.Machine.{Frame, Departure, queueOf, advance, queuedLast, stored, held, framesHeld}
+use Rattle.model.specs.Port.{Account, Gate, Port, accountAt, lineTick, markOf, withScheduler, withGate, withLineTick, withAccount}
+use Rattle.model.specs.Fitness.{fit}
 
 -- ---- reports and their refusals
 
@@ -118,30 +25,37 @@ unfoldable pub tickOf : Report → ℕ
 tickOf (wait time) = time
 tickOf (frame time line number len) = time
 
--- 13 to 15, of a frame report alone
-unfoldable pub frameChecks : Table → Port → Report → List Check
-frameChecks t s (wait time) = []
-frameChecks t s (frame time line number len) =
-    check 13 (leb (t .lines) line)
+-- 10: "port not fit"
+abbrev pub fitCheck : Table → Port → Check
+fitCheck t s = check 10 (not (fit t s))
+
+-- 13 to 15, of a frame report alone, by the line count and the line ticks
+unfoldable pub frameChecks : ℕ → List ℕ → Report → List Check
+frameChecks lines ticks (wait time) = []
+frameChecks lines ticks (frame time line number len) =
+    check 13 (leb lines line)
     ∷ check 14 (not (allHold (leb leastLength len ∷ leb len greatestLength ∷ [])))
-    ∷ check 15 (ltb time (lineTick s line + len))
+    ∷ check 15 (ltb time (lineTick ticks line + len))
     ∷ []
 
--- 10 to 15
-unfoldable pub reportChecks : Table → Port → Report → List Check
-reportChecks t s r =
-    check 10 (not (fit t s))
-    ∷ check 11 (ltb lastTick (tickOf r))
-    ∷ check 12 (ltb (tickOf r) (s .scheduler .clock))
-    ∷ frameChecks t s r
+-- 11 to 15, of a port that is fit, by its clock too: "then T above 2^48 − 1", "then T below clock", then those of a frame
+unfoldable pub reportChecks : ℕ → ℕ → List ℕ → Report → List Check
+reportChecks clock lines ticks r = check 11 (ltb lastTick (tickOf r)) ∷ check 12 (ltb (tickOf r) clock) ∷ frameChecks lines ticks r
 
 -- 16: "last: list shorter than 3 × frames held before the report"
-abbrev pub roomCheck : Port → ℕ → Check
-roomCheck s room = check 16 (ltb room (3 * framesHeld (s .scheduler .queues)))
+abbrev pub roomCheck : ℕ → ℕ → Check
+roomCheck frames room = check 16 (ltb room (3 * frames))
 
--- 0, or the first of 10 to 16 that a report meets that is lent a list of that length
+-- 10 to 16, of a report that is lent a list of that length
+unfoldable pub allChecks : Table → Port → Report → ℕ → List Check
+allChecks t s r room =
+    fitCheck t s
+    ∷ reportChecks (s .scheduler .clock) (t .lines) (s .gate .lineTicks) r
+    ++ (roomCheck (framesHeld (s .scheduler .queues)) room ∷ [])
+
+-- 0, or the first of them that it meets
 unfoldable pub reportRefusal : Table → Port → Report → ℕ → ℕ
-reportRefusal t s r room = firstMet (reportChecks t s r ++ (roomCheck s room ∷ []))
+reportRefusal t s r room = firstMet (allChecks t s r room)
 
 -- ---- the verdict of a frame that arrived
 
@@ -162,23 +76,46 @@ unfoldable pub admitted : Table → ℕ → ℕ → Option ℕ → Option ℕ
 admitted t line len none = none
 admitted t line len (some i) = cond (admits (linkAt (t .links) i) line len) (some i) none
 
--- "credit becomes the smaller of B + J and credit + T − its tick, its tick becomes T"
-unfoldable pub replenished : VirtualLink → Account → ℕ → Account
-replenished v a time = record { credit = min (bag v + v .jitter) (a .credit + (time - a .tick)); tick = time }
+-- ---- the police check: it changes the gate alone
+
+-- "credit becomes the smaller of B + J and credit + T − its tick, its tick becomes T"; B and J first
+unfoldable pub replenished : ℕ → ℕ → Account → ℕ → Account
+replenished B J a time = record { credit = min (B + J) (a .credit + (time - a .tick)); tick = time }
 
 -- "otherwise B is taken off"
-unfoldable pub charged : VirtualLink → Account → Account
-charged v a = record { credit = a .credit - bag v; tick = a .tick }
+unfoldable pub charged : ℕ → Account → Account
+charged B a = record { credit = a .credit - B; tick = a .tick }
 
--- "The account of a virtual link is charged where it stands in the port, no other account being touched"
-abbrev pub withAccount : Port → ℕ → Account → Port
-withAccount s i a = record { scheduler = s .scheduler; marks = s .marks; lineTicks = s .lineTicks; accounts = set (s .accounts) i a }
+-- whether a frame passes, and the account after it
+pub record Checked : Type 0 where
+  pub passed : Bool
+  pub account : Account
 
--- "dropped (3): .. held bytes + length exceed the size"; "stored (0): otherwise; queued last, and the mark rises to the held
--- bytes if they are more"
-unfoldable pub hasRoom : Table → Port → ℕ → Frame → Bool
-hasRoom t s p f = leb (held (queueOf (s .scheduler .queues) p) + occupied (f .length)) (sizeOf t p)
+-- "policed (2): .. and credit is below B"
+unfoldable pub checkedIf : Bool → ℕ → Account → Checked
+checkedIf false B a = record { passed = false; account = a }
+checkedIf true B a = record { passed = true; account = charged B a }
 
+unfoldable pub police : ℕ → ℕ → Account → ℕ → Checked
+police B J a time = let r = replenished B J a time in checkedIf (leb B (r .credit)) B r
+
+-- the check of the account at place i, where it stands: whether a frame passes, and the gate after it
+pub record Policed : Type 0 where
+  pub passed : Bool
+  pub gate : Gate
+
+unfoldable pub policeAt : ℕ → ℕ → Gate → ℕ → ℕ → Policed
+policeAt B J g i time =
+    let c = police B J (accountAt (g .accounts) i) time in
+    record { passed = c .passed; gate = withAccount g i (c .account) }
+
+-- ---- the store: it changes the scheduler and the marks alone
+
+-- not "held bytes + length exceed the size": size, queue, frame
+unfoldable pub hasRoom : ℕ → List Frame → Frame → Bool
+hasRoom size queue f = leb (held queue + occupied (f .length)) size
+
+-- "dropped (3)"; "stored (0): otherwise; queued last, and the mark rises to the held bytes if they are more"
 unfoldable pub storedIf : Bool → Port → ℕ → Frame → Judged
 storedIf false s p f = judged s 3
 storedIf true s p f =
@@ -186,25 +123,26 @@ storedIf true s p f =
     (record {
       scheduler = stored (s .scheduler) p f;
       marks = set (s .marks) p (max (markOf s p) (held (queueOf (queuedLast (s .scheduler .queues) p f) p)));
-      lineTicks = s .lineTicks;
-      accounts = s .accounts;
+      gate = s .gate;
     })
     0
 
--- "policed (2): .. and credit is below B"
-unfoldable pub passedIf : Bool → Table → Port → ℕ → Account → Frame → Judged
-passedIf false t s i a f = judged (withAccount s i a) 2
-passedIf true t s i a f =
-    let v = linkAt (t .links) i in
-    let charge = withAccount s i (charged v a) in
-    storedIf (hasRoom t charge (v .priority) f) charge (v .priority) f
+unfoldable pub store : Table → Port → ℕ → Frame → Judged
+store t s p f = storedIf (hasRoom (sizeOf t p) (queueOf (s .scheduler .queues) p) f) s p f
+
+-- ---- filter, police check, store
+
+-- of a port after the police check: policed (2), or stored or dropped
+unfoldable pub passedIf : Bool → Table → Port → ℕ → Frame → Judged
+passedIf false t s p f = judged s 2
+passedIf true t s p f = store t s p f
 
 unfoldable pub judge : Table → Port → Frame → Option ℕ → Judged
 judge t s f none = judged s 1
 judge t s f (some i) =
     let v = linkAt (t .links) i in
-    let a = replenished v (accountAt (s .accounts) i) (f .arrival) in
-    passedIf (leb (bag v) (a .credit)) t s i a f
+    let c = policeAt (bag v) (v .jitter) (s .gate) i (f .arrival) in
+    passedIf (c .passed) t (withGate s (c .gate)) (v .priority) f
 
 -- ---- a report
 
@@ -227,12 +165,6 @@ pub record Stepped : Type 0 where
   pub answer : Answer
   pub list : List ℕ
 
-abbrev pub withScheduler : Port → Scheduler → Port
-withScheduler s scheduler = record { scheduler = scheduler; marks = s .marks; lineTicks = s .lineTicks; accounts = s .accounts }
-
-abbrev pub withLineTick : Port → ℕ → ℕ → Port
-withLineTick s line time = record { scheduler = s .scheduler; marks = s .marks; lineTicks = set (s .lineTicks) line time; accounts = s .accounts }
-
 abbrev pub arrived : ℕ → ℕ → ℕ → Frame
 arrived number len time = record { number = number; length = len; arrival = time }
 
@@ -240,7 +172,7 @@ arrived number len time = record { number = number; length = len; arrival = time
 unfoldable pub judgeReport : Table → Port → Report → Judged
 judgeReport t s (wait time) = judged s 0
 judgeReport t s (frame time line number len) =
-    judge t (withLineTick s line time) (arrived number len time) (admitted t line len (placeOf number (t .links)))
+    judge t (withGate s (withLineTick (s .gate) line time)) (arrived number len time) (admitted t line len (placeOf number (t .links)))
 
 -- "Departures go to a lent list .. three each: number, length, tick freed; the rest of the list stays"
 abbrev pub threeNumbers : Departure → List ℕ

@@ -11,7 +11,8 @@ use Rattle.model.specs.Link.{VirtualLink, bag, linkAt, placeOf}
 use Rattle.model.specs.Table.{Table, sizeOf}
 use Rattle.model.specs.Bounds.{hold, bound}
 use Rattle.model.specs.Machine.{Frame, Departure, queueOf, held}
-use Rattle.model.specs.Report.{Port, markOf, fresh, Report, wait, frame, tickOf, arrived, Answer, Call, step}
+use Rattle.model.specs.Port.{Port, markOf, fresh}
+use Rattle.model.specs.Report.{Report, wait, frame, tickOf, arrived, Answer, Call, step}
 
 -- a report, its answer, and the departure list as the call left it
 pub record Entry : Type 0 where
