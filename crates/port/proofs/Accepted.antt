@@ -10,7 +10,8 @@ use Rattle.model.specs.Basics.{Each, done, also}
 use Rattle.model.specs.Units.{lastTick, leastLength, greatestLength, mostFrames}
 use Rattle.model.specs.Table.{Table}
 use Rattle.model.specs.Machine.{Frame, queueOf, framesHeld}
-use Rattle.model.specs.Report.{Port, lineTick, Report, wait, frame, tickOf, frameChecks, reportChecks, roomCheck, reportRefusal}
+use Rattle.model.specs.Port.{Port, lineTick}
+use Rattle.model.specs.Report.{Report, wait, frame, tickOf, frameChecks, reportChecks, roomCheck, reportRefusal}
 use Rattle.model.proofs.Checks.{all-true, Numbered, NoneMet, none-met, none-back}
 use Rattle.model.proofs.ValidTable.{Valid}
 use Rattle.model.proofs.Lined.{Lined, over, next, named}

@@ -14,7 +14,9 @@ use Rattle.model.specs.Units.{occupied}
 use Rattle.model.specs.Link.{VirtualLink, linkAt, placeOf}
 use Rattle.model.specs.Table.{Table, sizeOf, tableRefusal}
 use Rattle.model.specs.Machine.{Frame, advance, at, queueOf, held}
-use Rattle.model.specs.Report.{Port, blankAccount, accountAt, Report, wait, frame, tickOf, fit, reportChecks, reportRefusal, Judged, judged, admits, arrived, withAccount, withLineTick, judgeReport, refusal, acceptedOr, step, Stepped}
+use Rattle.model.specs.Port.{Port, blankAccount, accountAt, withAccount, withLineTick}
+use Rattle.model.specs.Fitness.{fit}
+use Rattle.model.specs.Report.{Report, wait, frame, tickOf, reportChecks, reportRefusal, Judged, judged, admits, arrived, judgeReport, refusal, acceptedOr, step, Stepped}
 use Rattle.model.proofs.Checks.{all-true, first-zero}
 use Rattle.model.proofs.Stepping.{Timely, Arrives, movedTo, placed}
 use Rattle.model.proofs.ValidTable.{Valid}

@@ -10,7 +10,7 @@ use Rattle.model.specs.Basics.{allTo, allHold}
 use Rattle.model.specs.Units.{lastTick, mostFrames}
 use Rattle.model.specs.Table.{tableRefusal}
 use Rattle.model.specs.Machine.{queueOf, held}
-use Rattle.model.specs.Report.{framesFit, senderFit, fit}
+use Rattle.model.specs.Fitness.{framesFit, senderFit, fit}
 use Rattle.model.proofs.Checks.{all-true, true-all}
 use Rattle.table.specs.declared.Table.{Table as TableRecord}
 use Rattle.table.specs.View.{viewTable}

@@ -10,7 +10,8 @@ use Rattle.model.specs.Units.{occupied}
 use Rattle.model.specs.Link.{VirtualLink, bag, linkAt, placeOf}
 use Rattle.model.specs.Table.{Table, sizeOf}
 use Rattle.model.specs.Machine.{Frame, queueOf, queuedLast, stored, held}
-use Rattle.model.specs.Report.{Account, Port, accountAt, markOf, Judged, judged, admits, admitted, replenished, charged, withAccount, hasRoom, passedIf, storedIf, judge, arrived}
+use Rattle.model.specs.Port.{Account, Port, accountAt, markOf, withAccount}
+use Rattle.model.specs.Report.{Judged, judged, admits, admitted, replenished, charged, hasRoom, passedIf, storedIf, judge, arrived}
 use Rattle.port_policing.specs.declared.Checked.{Checked}
 use Rattle.port_policing.specs.Check.{viewAccount, recordAccount, checkedIf, checkOf}
 use Rattle.port_storing.specs.Storing.{verdictIf}

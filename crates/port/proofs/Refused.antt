@@ -11,7 +11,9 @@ use Rattle.model.specs.Basics.{allHold, check, firstMet, firstRefusal}
 use Rattle.model.specs.Units.{lastTick, leastLength, greatestLength}
 use Rattle.model.specs.Table.{Table}
 use Rattle.model.specs.Machine.{framesHeld}
-use Rattle.model.specs.Report.{Port, lineTick, fit, Report, wait, frame, tickOf, frameChecks, reportChecks, roomCheck, reportRefusal}
+use Rattle.model.specs.Port.{Port, lineTick}
+use Rattle.model.specs.Fitness.{fit}
+use Rattle.model.specs.Report.{Report, wait, frame, tickOf, frameChecks, reportChecks, roomCheck, reportRefusal}
 use Rattle.model.proofs.Checks.{true-all, first-here, first-later, Numbered, first-none, first-append}
 use Rattle.port.specs.Refusals.{Lines}
 use Rattle.port_fitness.proofs.All.{any-false}

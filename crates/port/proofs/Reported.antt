@@ -8,7 +8,8 @@ use lib.Seq.{set-getD, getD-set-same}
 use Rattle.model.specs.Basics.{entries}
 use Rattle.model.specs.Units.{occupied}
 use Rattle.model.specs.Machine.{Frame, Sender, Scheduler, Advance, at, advance, queueOf, queuedLast, bytes, held}
-use Rattle.model.specs.Report.{Account, Port, blankAccount, wait, frame, withAccount, withLineTick}
+use Rattle.model.specs.Port.{Account, Port, blankAccount, withAccount, withLineTick}
+use Rattle.model.specs.Report.{wait, frame}
 use Rattle.model.proofs.Queues.{bytes-snoc}
 use Rattle.model.proofs.QueueSteps.{advance-clock}
 use Rattle.model.proofs.Stepping.{movedTo}

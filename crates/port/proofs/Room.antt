@@ -8,7 +8,7 @@ use lib.ListN.{length, List·getD-eq-default}
 use Rattle.model.specs.Units.{leastLength, occupied, mostFrames}
 use Rattle.model.specs.Table.{Table, sizeOf}
 use Rattle.model.specs.Machine.{advance, queueOf, held}
-use Rattle.model.specs.Report.{Port}
+use Rattle.model.specs.Port.{Port}
 use Rattle.model.proofs.Stepping.{Timely, movedTo}
 use Rattle.model.proofs.Lined.{Lined, over, lined-count}
 use Rattle.model.proofs.Invariant.{Ordered, moved-ordered}

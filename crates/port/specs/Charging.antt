@@ -3,7 +3,7 @@ use mathlib.Core.List.{List}
 use Prim.Native.Nat.{ℕ}
 use lib.ListN.{getD, set}
 use Rattle.model.specs.Link.{VirtualLink}
-use Rattle.model.specs.Report.{blankAccount}
+use Rattle.model.specs.Port.{blankAccount}
 use Rattle.port_policing.specs.declared.Account.{Account as AccountRecord}
 use Rattle.port_policing.specs.declared.Checked.{Checked}
 use Rattle.port_policing.specs.Check.{recordAccount, checkOf}

@@ -6,7 +6,7 @@ use lib.Dec.{eqb, leb}
 use Rattle.model.specs.Units.{lastTick}
 use Rattle.model.specs.Table.{tableRefusal}
 use Rattle.model.specs.Machine.{framesHeld}
-use Rattle.model.specs.Report.{senderFit, fit}
+use Rattle.model.specs.Fitness.{senderFit, fit}
 use Rattle.table.specs.View.{viewTable}
 use Rattle.port_scheduler.specs.View.{viewQueues, viewSender}
 use Rattle.port_fitness.specs.Conditions.{linesFit, ticksFit, creditsFit}

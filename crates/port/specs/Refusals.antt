@@ -6,7 +6,7 @@ use lib.ListN.{getD}
 use Rattle.model.specs.Basics.{entries}
 use Rattle.model.specs.Units.{lastTick}
 use Rattle.model.specs.Table.{Table}
-use Rattle.model.specs.Report.{Port}
+use Rattle.model.specs.Port.{Port}
 
 -- so many lines, with ticks that a clock may have
 pub record Clocked (ticks : List ℕ) (lines : ℕ) : Type 0 where

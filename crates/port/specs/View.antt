@@ -4,7 +4,8 @@ use lib.ListN.{replicate}
 use Rattle.model.specs.Basics.{entries}
 use Rattle.model.specs.Table.{Table, blankTable}
 use Rattle.model.specs.Machine.{at}
-use Rattle.model.specs.Report.{Account, Port, blankAccount, fullAccount, Report, wait, frame}
+use Rattle.model.specs.Port.{Account, Port, blankAccount, fullAccount}
+use Rattle.model.specs.Report.{Report, wait, frame}
 use Rattle.table.specs.declared.Table.{Table as TableRecord}
 use Rattle.table.specs.View.{viewLinks, viewTable, recordTable}
 use Rattle.port_policing.specs.Check.{viewAccount, recordAccount}

@@ -1,17 +1,22 @@
-// Internal to the product: the account of a virtual link (a token bucket), the police check, and the accounts at rest.
+// Internal to the product: the account of a virtual link (a token bucket), the police check, the accounts at rest, and the gate.
 use numbers::excess;
 use numbers::u32_as_u64;
 use table::Table;
 ghost use mathlib.Core.Path.{_≡_};
 ghost use Prim.Native.Nat.{_+_, _-_, _≤_, _<_, min};
-ghost use Rattle.model.specs.Link.{VirtualLink, bag as bagOfLink};
-ghost use Rattle.port_policing.specs.Check.{checkOf};
+ghost use Rattle.port_policing.specs.Check.{checkBy};
 ghost use Rattle.port_policing.specs.Full.{fullAccounts};
 
 // Credit in ticks, and the tick of its last change.
 pub struct Account {
     pub credit: u64,
     pub tick: u64,
+}
+
+// For each line the tick of its last frame; for each virtual link its account.
+pub struct Gate {
+    pub line_ticks: [u64; 24],
+    pub accounts: [Account; 256],
 }
 
 // Whether the frame passed, and the account after it.
@@ -33,10 +38,10 @@ fn capped_sum(top: u64, x: u64, y: u64) -> u64
     x + y
 }
 
-// The police check of a frame at a tick. The sum B + J is not formed, so that none can wrap:
+// The police check of a frame at a tick, for any BAG and jitter. The sum B + J is not formed, so that none can wrap:
 // the smaller of B + J and c, less B, is the smaller of J and c − B.
 pub fn police(a: Account, bag: u64, jitter: u64, time: u64) -> Checked
-    ensures { λ r. ⌜ ((v : VirtualLink) → bagOfLink v ≡ bag → v .jitter ≡ jitter → r ≡ checkOf v a time) ⌝ }
+    ensures { λ r. ⌜ r ≡ checkBy bag jitter a time ⌝ }
 {
     let gone = excess(time, a.tick);
     let short = excess(bag, a.credit);
@@ -59,7 +64,7 @@ pub fn police(a: Account, bag: u64, jitter: u64, time: u64) -> Checked
 
 // The account is charged where it stands: the police check of a frame at a tick; whether it passed.
 pub fn charge(a: &mut Account, bag: u64, jitter: u64, time: u64) -> bool
-    ensures { λ r. ⌜ ((v : VirtualLink) → bagOfLink v ≡ bag → v .jitter ≡ jitter → record { passed = r; account = now (a .exit) } ≡ checkOf v (now (a .entry)) time) ⌝ }
+    ensures { λ r. ⌜ record { passed = r; account = now (a .exit) } ≡ checkBy bag jitter (now (a .entry)) time ⌝ }
 {
     let c = police(*a, bag, jitter, time);
     *a = c.account;

@@ -38,8 +38,7 @@ use denote.Triple.Table.{entered, cited}
 use denote.Triple.Walked.{says, Stays, stay-ref, stay-none, walkOf, AllGo, goes-none, goes-ref, Walks, ends-at, walked, walk-meets}
 use denote.Exit.{yes}
 use denote.Triple.Clauses.{ensured, lasts}
-use Rattle.model.specs.Link.{VirtualLink, bag as bagOfLink}
-use Rattle.port_policing.specs.Check.{checkOf}
+use Rattle.port_policing.specs.Check.{checkBy}
 use Rattle.port_policing.specs.declared.Account.{Account}
 use Rattle.port_policing.specs.declared.Checked.{Checked}
 use Rattle.port_policing.proofs.Account as T
@@ -78,7 +77,7 @@ module _ {M : Type 1} (𝓤 : URA M) (H : Heap 𝓤) (A : Atoms 𝓤) (W : Given
 
   -- what is said of the check's outcome
   abbrev Says : Checked → Type 0
-  Says c = (v : VirtualLink) → bagOfLink v ≡ bag → v .jitter ≡ jitter → c ≡ checkOf v h time
+  Says c = c ≡ checkBy bag jitter h time
 
   abbrev Post : Val → SProp 𝓤
   Post = walkOf 𝓤 H A f.ended stayed (f.clauses 𝓤 H A at-mem run) .post (((κ, tt), (q, tt), tt, x, at), tt)

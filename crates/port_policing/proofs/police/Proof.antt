@@ -15,9 +15,9 @@ add-grown : tie.Need-add-grown
 add-grown c = search needs
 
 returns : tie.Need-returns
-returns c v b j =
+returns c =
     let start = c .before .before .before .before in
-    is-policed v (start .args .a) (start .args .time) (c .before .before .before .excess .ensures) (omega arith) (c .before .if1 .taken)
+    is-policed (start .args .bag) (start .args .jitter) (start .args .a) (start .args .time) (c .before .before .before .excess .ensures) (omega arith) (c .before .if1 .taken)
 
 excess-requires-3 : tie.Need-excess-requires-3
 excess-requires-3 c κs = search needs
@@ -26,9 +26,9 @@ capped-sum-requires : tie.Need-capped-sum-requires
 capped-sum-requires c κs = search needs
 
 returns-2 : tie.Need-returns-2
-returns-2 c v b j =
+returns-2 c =
     let start = c .before .before .before .before .before in
-    passes v (start .args .a) (start .args .time) (c .before .before .before .before .excess .ensures) (omega arith) {rest = c .before .excess3 .result} (omega arith) (omega arith) (c .before .before .if1 .left)
+    passes (start .args .bag) (start .args .jitter) (start .args .a) (start .args .time) (c .before .before .before .before .excess .ensures) (omega arith) {rest = c .before .excess3 .result} (omega arith) (omega arith) (c .before .before .if1 .left)
 
 pub police-spec : {M : Type 1} → statement M
 police-spec =

@@ -44,7 +44,7 @@ use denote.Triple.Walked.{says, needs, Stays, stay-dropped, walkOf, AllGo, goes-
 use denote.Exit.{yes}
 use denote.Triple.Clauses.{ensured, lasts}
 use Rattle.model.specs.Link.{VirtualLink, bag as bagOfLink}
-use Rattle.model.specs.Report.{blankAccount}
+use Rattle.model.specs.Port.{blankAccount}
 use Rattle.port_policing.specs.declared.Account.{Account}
 use Rattle.port_policing.specs.declared.Checked.{Checked}
 use Rattle.port_policing.specs.Check.{recordAccount, checkOf}
