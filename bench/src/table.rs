@@ -5,14 +5,14 @@ use std::hint::black_box;
 
 extern "C" {
     fn table_c_refusal(file: *const u8, length: usize) -> u32;
-    fn table_c_copy(file: *const u8, length: usize, out: *mut u8, room: usize) -> usize;
+    fn table_c_copy(file: *const u8, length: usize, out: *mut u8, room: usize) -> u32;
 }
 
 fn product_refusal(file: &[u8]) -> u32 {
     unsafe { table_c_refusal(file.as_ptr(), file.len()) }
 }
 
-fn product_copy(file: &[u8], out: &mut [u8]) -> usize {
+fn product_copy(file: &[u8], out: &mut [u8]) -> u32 {
     unsafe { table_c_copy(file.as_ptr(), file.len(), out.as_mut_ptr(), out.len()) }
 }
 
@@ -164,8 +164,8 @@ fn peer_refusal(file: &[u8]) -> u32 {
     }
 }
 
-fn peer_copy(file: &[u8], out: &mut [u8]) -> usize {
-    read(file).and_then(|t| write(&t, out)).unwrap_or(0)
+fn peer_copy(file: &[u8], out: &mut [u8]) -> u32 {
+    read(file).and_then(|t| write(&t, out)).err().unwrap_or(0)
 }
 
 /// The file of a table that passes.
@@ -196,11 +196,15 @@ pub fn run() {
     let file = file_of_256();
     let (mut ours, mut theirs) = (vec![0xA5; 4_700], vec![0xA5; 4_700]);
     assert_eq!(product_refusal(&file), 0);
-    assert_eq!(product_copy(&file, &mut ours), peer_copy(&file, &mut theirs));
-    assert!(ours == theirs && ours[..file.len()] == file[..]);
     for cut in [0, 3, 7, 100, file.len() - 1] {
         assert_eq!(product_refusal(&file[..cut]), peer_refusal(&file[..cut]));
+        assert_eq!(product_copy(&file[..cut], &mut ours), peer_copy(&file[..cut], &mut theirs));
+        assert_eq!(product_copy(&file, &mut ours[..cut]), 9);
+        assert!(ours == theirs);
     }
+    assert_eq!(product_copy(&file, &mut ours), 0);
+    assert_eq!(peer_copy(&file, &mut theirs), 0);
+    assert!(ours == theirs && ours[..file.len()] == file[..]);
     compare(
         "read a file of 256 links",
         200,

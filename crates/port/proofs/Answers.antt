@@ -11,7 +11,7 @@ use lib.ListN.{length, getD, set, drop, length-map, List·getD-map}
 use lib.Seq.{drop-set-lt}
 use Rattle.model.specs.Basics.{entries, check}
 use Rattle.model.specs.Units.{occupied}
-use Rattle.model.specs.Link.{VirtualLink, linkAt, placeOf}
+use Rattle.model.specs.Link.{VirtualLink, bag, linkAt, placeOf}
 use Rattle.model.specs.Table.{Table, sizeOf, tableRefusal}
 use Rattle.model.specs.Machine.{Frame, advance, at, queueOf, held}
 use Rattle.model.specs.Port.{Port, blankAccount, accountAt, withAccount, withLineTick}
@@ -43,7 +43,7 @@ use Rattle.port.specs.declared.charging.Charged.{Charged}
 use Rattle.port_storing.specs.declared.Settled.{Settled}
 use Rattle.port.specs.View.{viewPortTable, viewPort, viewReport}
 use Rattle.table_lookup.specs.Places.{Found}
-use Rattle.port.specs.Charging.{chargeOf}
+use Rattle.port.specs.Charging.{chargedAt, chargeBy}
 use Rattle.port_storing.specs.Storing.{verdictIf, Roomy, Settles}
 use Rattle.port.specs.Contracts.{stepFrom, Answered}
 use Rattle.table_lookup.proofs.Tables.{Passing, passing, counts-pass}
@@ -52,8 +52,16 @@ use Rattle.port.proofs.Accepted.{accepted}
 use Rattle.port.proofs.Accepted.{arrives as arrives-at-line}
 use Rattle.port.proofs.Room.{fewer-with-room}
 use Rattle.model.proofs.Entries.{getD-entries}
+use Rattle.port_policing.proofs.Bucket.{check-of-link}
 use Rattle.port.proofs.Judged.{storedUnder, judged-nowhere, judged-filtered, judged-policed, judged-passed}
 use Rattle.port.proofs.Reported.{made, there, waited, ticked, charged, settled}
+
+-- ---- the charge, for a link in the model's words
+abbrev pub chargeOf : VirtualLink → PortRecord → ℕ → ℕ → Charged
+chargeOf v p i time = chargedAt p i (checkOf v (getD (p .accounts) i (recordAccount blankAccount)) time)
+
+pub charged-of-link : (v : VirtualLink) (p : PortRecord) (i time : ℕ) {b j : ℕ} {x : Charged} → b ≡ bag v → j ≡ v .jitter → x ≡ chargeBy b j p i time → x ≡ chargeOf v p i time
+charged-of-link v p i time b-is j-is e = rw (b-is, j-is, check-of-link v (getD (p .accounts) i (recordAccount blankAccount)) time) at e
 
 -- not refused, being lent a list of that length
 abbrev pub NotRefused : PortRecord → Report → ℕ → Type 0

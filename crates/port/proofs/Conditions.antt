@@ -1,5 +1,5 @@
 -- The model's fitness of a port record, by the conditions over the code's records.
-use mathlib.Core.Path.{_≡_, refl, sym, _∙_}
+use mathlib.Core.Path.{_≡_, refl, sym, ap, _∙_}
 use mathlib.Core.Bool.{Bool, true, false}
 use mathlib.Core.List.{List, [], _∷_}
 use Prim.Native.Nat.{ℕ, _≤_, _<_}
@@ -21,8 +21,9 @@ use Rattle.port.specs.declared.Port.{Port as PortRecord}
 use Rattle.port.specs.View.{viewPortTable, viewPort}
 use Rattle.port_fitness.specs.Conditions.{linesFit, ticksFit, creditsFit}
 use Rattle.port_queue_fitness.specs.declared.Fitness.{Fitness}
-use Rattle.port_queue_fitness.specs.Queues.{queuesFit, Told}
+use Rattle.port_queue_fitness.specs.Queues.{queuesFit, queuesFitness}
 use Rattle.port.specs.Fitness.{conditions, Tested}
+use Rattle.port_queue_fitness.proofs.QueueTests.{frames-counted}
 use Rattle.port_fitness.proofs.All.{not-both, same-truth, all-four, any-false}
 
 -- four conditions are one
@@ -65,9 +66,9 @@ module _ (p : PortRecord) where
   fails i e = any-false (conditions p) i e ∙ sym fit-shown
 
   -- ---- a record that is not fit
-  module _ (r : Fitness) (e : r .fits ≡ false) where
+  module _ (r : Fitness) (e : r ≡ record { fits = false; frames = 0 }) where
     unfit-tested : false ≡ fit (viewPortTable p) (viewPort p) → Tested p r
-    unfit-tested x = record { fits-is = e ∙ x; counted = λ y. not-both y e }
+    unfit-tested x = let none = ap (λ (a : Fitness). a .fits) e in record { fits-is = none ∙ x; counted = λ y. not-both y none }
 
     pub table-refused : {n : ℕ} → n ≡ tableRefusal (viewTable (p .table)) → (n ≡ 0 → ⊥) → Tested p r
     unfolding conditions
@@ -92,13 +93,13 @@ module _ (p : PortRecord) where
     lines-unfit x = unfit-tested (fails 3 (sym x))
 
   -- ---- the accounts decide
-  module _ (a : tableRefusal (viewTable (p .table)) ≡ 0) (b : p .clock ≤ lastTick) {q : Fitness} (told : Told (p .table) (p .clock) (p .queues) (p .sender) q) (yes : q .fits ≡ true)
+  module _ (a : tableRefusal (viewTable (p .table)) ≡ 0) (b : p .clock ≤ lastTick) {q : Fitness} (told : q ≡ queuesFitness (p .table) (p .clock) (p .queues) (p .sender)) (yes : q .fits ≡ true)
       (c : true ≡ linesFit (p .«line_ticks») (p .table .lines) (p .clock)) where
     pub accounts-decide : (f : Bool) → f ≡ allHold (ticksFit (p .accounts) (p .table .count) (p .clock) ∷ creditsFit (p .accounts) (p .table) ∷ [])
         → Tested p (record { fits = f; frames = q .frames })
     unfolding conditions
     accounts-decide f x =
-        let two = all-true _ (sym (told .fits-is) ∙ yes) in
+        let two = all-true _ (sym (ap (λ (a : Fitness). a .fits) told) ∙ yes) in
         record {
           fits-is =
               x
@@ -113,5 +114,5 @@ module _ (p : PortRecord) where
               (λ (y : fit (viewPortTable p) (viewPort p) ≡ true).
               let all = all-true (conditions p) (sym fit-shown ∙ y) in
               true-all _ (all .1 .1 .1 .1 .0, (all .1 .1 .1 .1 .1 .0, tt)));
-          counted = λ y. told .counted yes;
+          counted = λ y. frames-counted told yes;
         }

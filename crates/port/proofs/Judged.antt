@@ -58,7 +58,7 @@ module _ (t : Table) (s : Port) (time line number len i : ℕ) where
       unfolding checkOf checkedIf passedIf
       judged-policed declined = rw by-credit (go (leb (bag v) (renewed .credit)) checked)
         where
-          go : (x : Bool) → c ≡ checkedIf x v renewed → passedIf x t s i renewed it ≡ judged (withAccount s i (viewAccount (c .account))) 2
+          go : (x : Bool) → c ≡ checkedIf x renewed (charged v renewed) → passedIf x t s i renewed it ≡ judged (withAccount s i (viewAccount (c .account))) 2
           go true e = absurd (let z : true ≡ false = cc in let w : _≡_ {A = ℕ} 0 1 = cc in omega arith)
           go false e = rw e
 
@@ -76,7 +76,7 @@ module _ (t : Table) (s : Port) (time line number len i : ℕ) where
       unfolding checkOf checkedIf passedIf hasRoom
       judged-passed paid e = rw (by-credit, e) (go (leb (bag v) (renewed .credit)) checked)
         where
-          go : (x : Bool) → c ≡ checkedIf x v renewed → passedIf x t s i renewed it
+          go : (x : Bool) → c ≡ checkedIf x renewed (charged v renewed) → passedIf x t s i renewed it
               ≡ judged (storedUnder (verdictIf (leb (held (queueOf (s .scheduler .queues) (v .priority)) + occupied len) (sizeOf t (v .priority)))) chargedPort (v .priority) it)
               (verdictIf (leb (held (queueOf (s .scheduler .queues) (v .priority)) + occupied len) (sizeOf t (v .priority))))
           go true e = rw (← by-room (leb (held (queueOf (s .scheduler .queues) (v .priority)) + occupied len) (sizeOf t (v .priority)))) (rw e)

@@ -2,11 +2,10 @@
 use mathlib.Core.List.{List}
 use Prim.Native.Nat.{ℕ}
 use lib.ListN.{getD, set}
-use Rattle.model.specs.Link.{VirtualLink}
 use Rattle.model.specs.Port.{blankAccount}
 use Rattle.port_policing.specs.declared.Account.{Account as AccountRecord}
 use Rattle.port_policing.specs.declared.Checked.{Checked}
-use Rattle.port_policing.specs.Check.{recordAccount, checkOf}
+use Rattle.port_policing.specs.Check.{recordAccount, checkBy}
 use Rattle.port.specs.declared.Port.{Port as PortRecord}
 use Rattle.port.specs.declared.charging.Charged.{Charged}
 
@@ -19,5 +18,6 @@ withAccounts p accounts =
 abbrev pub chargedAt : PortRecord → ℕ → Checked → Charged
 chargedAt p i c = record { passed = c .passed; port = withAccounts p (set (p .accounts) i (c .account)) }
 
-abbrev pub chargeOf : VirtualLink → PortRecord → ℕ → ℕ → Charged
-chargeOf v p i time = chargedAt p i (checkOf v (getD (p .accounts) i (recordAccount blankAccount)) time)
+-- for any B and J
+abbrev pub chargeBy : (bag jitter : ℕ) → PortRecord → ℕ → ℕ → Charged
+chargeBy bag jitter p i time = chargedAt p i (checkBy bag jitter (getD (p .accounts) i (recordAccount blankAccount)) time)

@@ -10,7 +10,7 @@ use lib.ListN.{length, getD, take, drop, List·getD-map}
 use Rattle.model.specs.Units.{mostFrames}
 use Rattle.model.specs.Link.{linkAt, placeOf}
 use Rattle.model.specs.Table.{tableRefusal}
-use Rattle.model.specs.Basics.{allTo, allHold}
+use Rattle.model.specs.Basics.{provided, allTo, allHold}
 use Rattle.model.specs.Machine.{Frame, queueOf, bytes, held, framesHeld}
 use Rattle.model.specs.Fitness.{framesFit, senderFit}
 use Rattle.model.proofs.Checks.{all-true, true-all}
@@ -27,7 +27,7 @@ use Rattle.table_lookup.specs.declared.Place.{Place}
 use Rattle.table_lookup.specs.declared.Place.the-variants.{At, Nowhere}
 use Rattle.table_lookup.specs.Places.{viewPlace, Found}
 use Rattle.port_fitness.specs.Conditions.{frameFits}
-use Rattle.port_queue_fitness.specs.Queues.{loadFits, queueFits, queuesFit, Told}
+use Rattle.port_queue_fitness.specs.Queues.{loadFits, queueFits, queuesFit, fitnessIf, queuesFitness}
 use Rattle.port_fitness.proofs.All.{not-both, same-truth, any-false, all-stops, all-end}
 use Rattle.table_lookup.proofs.Tables.{Passing, passing}
 use Rattle.port_queue_fitness.proofs.Frames.{frame-shown, names-none, names-one, frames-end}
@@ -127,24 +127,28 @@ none-queued t clock p r e =
     ))
 
 -- ---- what is told of all queues and of the sender
-module _ (t : TableRecord) (clock : ℕ) (queues : List Queue) (sender : SenderRecord) (r : Fitness) where
-  unfit-told : r .fits ≡ false → false ≡ allHold (queuesFit t clock queues ∷ senderFit clock (viewQueues queues) (viewSender sender) ∷ []) → Told t clock queues sender r
-  unfit-told e x = record { fits-is = e ∙ x; counted = λ y. not-both y e }
+pub frames-counted : {r : Fitness} {b : Bool} {n : ℕ} → r ≡ fitnessIf b n → r .fits ≡ true → r .frames ≡ n
+unfolding provided
+frames-counted {r} {b} {n} e fits = ap (λ (x : Fitness). x .frames) e ∙ rw (sym (ap (λ (x : Fitness). x .fits) e) ∙ fits)
 
-  pub queue-told : r .fits ≡ false → (i : ℕ) → i < 8 → queueFits t clock queues i ≡ false → Told t clock queues sender r
-  queue-told e i h x = unfit-told e (any-false _ 0 (sym (all-stops _ 8 i h x)))
+abbrev pub notFit : Fitness
+notFit = record { fits = false; frames = 0 }
 
-  pub sender-told : r .fits ≡ false → false ≡ senderFit clock (viewQueues queues) (viewSender sender) → Told t clock queues sender r
-  sender-told e x = unfit-told e (any-false _ 1 (sym x))
+module _ (t : TableRecord) (clock : ℕ) (queues : List Queue) (sender : SenderRecord) where
+  module _ {r : Fitness} (none : r ≡ notFit) where
+    unfit-told : false ≡ allHold (queuesFit t clock queues ∷ senderFit clock (viewQueues queues) (viewSender sender) ∷ []) → r ≡ queuesFitness t clock queues sender
+    unfolding provided
+    unfit-told x = rw (← x) none
 
-  pub all-told : (i : ℕ) → i ≤ 8 → 8 ≤ i → length queues ≡ 8 → allTo (queueFits t clock queues) i ≡ true → r .frames ≡ framesHeld (take i (viewQueues queues))
-      → r .fits ≡ senderFit clock (viewQueues queues) (viewSender sender) → Told t clock queues sender r
+    pub queue-told : (i : ℕ) → i < 8 → queueFits t clock queues i ≡ false → r ≡ queuesFitness t clock queues sender
+    queue-told i h x = unfit-told (any-false _ 0 (sym (all-stops _ 8 i h x)))
+
+    pub sender-told : false ≡ senderFit clock (viewQueues queues) (viewSender sender) → r ≡ queuesFitness t clock queues sender
+    sender-told x = unfit-told (any-false _ 1 (sym x))
+
+  pub all-told : (i : ℕ) → i ≤ 8 → 8 ≤ i → length queues ≡ 8 → allTo (queueFits t clock queues) i ≡ true → {frames : ℕ} → frames ≡ framesHeld (take i (viewQueues queues))
+      → true ≡ senderFit clock (viewQueues queues) (viewSender sender) → _≡_ {A = Fitness} (record { fits = true; frames = frames }) (queuesFitness t clock queues sender)
+  unfolding provided
   all-told i h k n all e x =
-      record {
-        fits-is =
-            x
-            ∙ same-truth _ _
-            (λ y. true-all _ (sym (all-end _ 8 i h k all), (y, tt)))
-            (λ (y : allHold (queuesFit t clock queues ∷ senderFit clock (viewQueues queues) (viewSender sender) ∷ []) ≡ true). all-true _ y .1 .0);
-        counted = λ y. e ∙ frames-all queues i (omega arith);
-      }
+      let fits-is : true ≡ allHold (queuesFit t clock queues ∷ senderFit clock (viewQueues queues) (viewSender sender) ∷ []) = sym (true-all _ (sym (all-end _ 8 i h k all), (sym x, tt))) in
+      rw (← fits-is, e ∙ frames-all queues i (omega arith))

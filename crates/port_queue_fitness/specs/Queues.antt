@@ -1,11 +1,10 @@
 -- The conditions of fitness on queues and sender, over the records of the code.
-use mathlib.Core.Path.{_≡_}
-use mathlib.Core.Bool.{Bool, true}
+use mathlib.Core.Bool.{Bool}
 use mathlib.Core.List.{List, [], _∷_}
 use Prim.Native.Nat.{ℕ}
 use lib.Dec.{leb}
 use lib.ListN.{length, getD}
-use Rattle.model.specs.Basics.{allTo, allHold}
+use Rattle.model.specs.Basics.{provided, allTo, allHold}
 use Rattle.model.specs.Units.{mostFrames}
 use Rattle.model.specs.Machine.{queueOf, held, framesHeld}
 use Rattle.model.specs.Fitness.{framesFit, senderFit}
@@ -34,7 +33,10 @@ queueFits t clock queues p =
 abbrev pub queuesFit : TableRecord → ℕ → List Queue → Bool
 queuesFit t clock queues = allTo (queueFits t clock queues) 8
 
--- what is told of the queues and the sender: whether all of it fits, and, if so, how many frames are held
-pub record Told (t : TableRecord) (clock : ℕ) (queues : List Queue) (sender : SenderRecord) (r : Fitness) : Type 0 where
-  pub fits-is : r .fits ≡ allHold (queuesFit t clock queues ∷ senderFit clock (viewQueues queues) (viewSender sender) ∷ [])
-  pub counted : r .fits ≡ true → r .frames ≡ framesHeld (viewQueues queues)
+-- whether what was tested fits, and the frames held if so, else 0
+abbrev pub fitnessIf : Bool → ℕ → Fitness
+fitnessIf fits frames = record { fits = fits; frames = provided fits frames }
+
+-- of the queues and the sender
+abbrev pub queuesFitness : TableRecord → ℕ → List Queue → SenderRecord → Fitness
+queuesFitness t clock queues sender = fitnessIf (allHold (queuesFit t clock queues ∷ senderFit clock (viewQueues queues) (viewSender sender) ∷ [])) (framesHeld (viewQueues queues))

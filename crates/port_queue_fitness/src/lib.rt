@@ -11,16 +11,16 @@ ghost use Prim.Native.Nat.{_≤_};
 ghost use Rattle.model.specs.Units.{mostFrames};
 ghost use Rattle.model.specs.Table.{tableRefusal};
 ghost use Rattle.table.specs.View.{viewTable};
-ghost use Rattle.port_queue_fitness.specs.Queues.{loadFits, Told};
+ghost use Rattle.port_queue_fitness.specs.Queues.{loadFits, queuesFitness};
 
-// Whether what was tested fits, and, if so, how many frames are held.
+// Whether what was tested fits, and, if so, how many frames are held; else 0.
 pub struct Fitness {
     pub fits: bool,
     pub frames: u64,
 }
 
 pub fn unfit() -> Fitness
-    ensures { λ r. ⌜ r .fits ≡ false ⌝ }
+    ensures { λ r. ⌜ r ≡ record { fits = false; frames = 0 } ⌝ }
 {
     Fitness {
         fits: false,
@@ -74,7 +74,7 @@ fn load_fits(t: Table, guesses: &[u8; 1024], q: Queue, priority: u8, clock: u64)
 // Counts, frames, held sums and marks, and the frame being sent. An empty queue is not read: reading one is a copy.
 pub fn queues_fit(t: Table, queues: [Queue; 8], sender: Sender, clock: u64) -> Fitness
     requires { ⌜ tableRefusal (viewTable t) ≡ 0 ⌝ }
-    ensures { λ r. ⌜ Told t clock queues sender r ⌝ }
+    ensures { λ r. ⌜ r ≡ queuesFitness t clock queues sender ⌝ }
 {
     let mut guesses = [0u8; 1024];
     let mut frames: u64 = 0;
@@ -106,8 +106,8 @@ pub fn queues_fit(t: Table, queues: [Queue; 8], sender: Sender, clock: u64) -> F
         return unfit();
     }
     let head = queues[p as usize];
-    Fitness {
-        fits: port_fitness::head_fits(head, start, clock),
-        frames,
+    if !port_fitness::head_fits(head, start, clock) {
+        return unfit();
     }
+    Fitness { fits: true, frames }
 }

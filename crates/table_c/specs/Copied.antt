@@ -5,7 +5,7 @@ use Prim.Native.Nat.{ℕ, zero, suc}
 use Rattle.model.specs.Table.{Table}
 use Rattle.model.specs.TableFile.{readTable, Writing, writeTable}
 
--- the writer's answer, or with a refusal of the reader nothing written
+-- what the writer does, or the reader's refusal, with nothing written
 unfoldable pub copyOr : ℕ → Table → List ℕ → Writing
 copyOr zero t output = writeTable t output
 copyOr (suc n) t output = record { refused = suc n; written = 0; output = output }
@@ -13,6 +13,7 @@ copyOr (suc n) t output = record { refused = suc n; written = 0; output = output
 unfoldable pub copyOf : List ℕ → List ℕ → Writing
 copyOf file output = copyOr (readTable file .refused) (readTable file .table) output
 
-pub record Copied (file before after : List ℕ) (written : ℕ) : Type 0 where
-  pub count : written ≡ copyOf file before .written
+-- the answer is 0 or the number of the refusal, and the whole output afterwards is the model's
+pub record Copied (file before after : List ℕ) (refused : ℕ) : Type 0 where
+  pub answer : refused ≡ copyOf file before .refused
   pub output : after ≡ copyOf file before .output

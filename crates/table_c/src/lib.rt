@@ -12,17 +12,17 @@ pub extern "C" fn table_c_refusal(file: &[u8]) -> u32
     reading.refused
 }
 
-// Reads the file and writes its table to the output; answers the bytes written.
-// With a refusal of the reader or the writer it answers 0 and writes to no byte.
+// Reads the file and writes its table to the output: 44 + 18 × n bytes, as many as the file has.
+// Answers 0, or the number of the refusal, 1 to 7 of the reader or 9 of the writer, and then writes to no byte.
 #[no_mangle]
-pub extern "C" fn table_c_copy(file: &[u8], out: &mut [u8]) -> usize
+pub extern "C" fn table_c_copy(file: &[u8], out: &mut [u8]) -> u32
     ensures { λ r. ⌜ Copied (now (file .entry)) (now (out .entry)) (now (out .exit)) r ⌝ }
 {
     let reading = table_file::read(file);
     if reading.refused != 0 {
-        return 0;
+        return reading.refused;
     }
     let t = reading.table;
     let writing = table_file::write(t, out);
-    writing.written
+    writing.refused
 }

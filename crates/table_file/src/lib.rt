@@ -1,6 +1,7 @@
 // The table file: its reader and its writer.
 mod steps;
 mod walk;
+mod writer;
 
 use table::Table;
 ghost use mathlib.Core.Path.{_≡_};
@@ -44,26 +45,5 @@ pub fn read(file: &[u8]) -> Reading
 pub fn write(t: Table, out: &mut [u8]) -> Writing
     ensures { λ r. ⌜ Wrote (viewTable t) (now (out .entry)) (now (out .exit)) r ⌝ }
 {
-    let refused = table::check(t);
-    if refused != 0 {
-        return Writing {
-            refused,
-            written: 0,
-        };
-    }
-    let at = 8 + 18 * (t.count as usize);
-    if out.len() < at + 36 {
-        return Writing {
-            refused: 9,
-            written: 0,
-        };
-    }
-    let sizes = t.sizes;
-    table_record_writer::counts_record(out, t.lines, t.count);
-    table_record_writer::link_records(out, t);
-    table_record_writer::sizes_record(out, at, sizes);
-    Writing {
-        refused: 0,
-        written: at + 36,
-    }
+    writer::write(t, out)
 }

@@ -51,7 +51,7 @@ returns : tie.Need-returns Inv-loop μ-loop
 returns c =
     let start = c .before .before .before .before .before .before .before .before in
     let loop = c .before .before .before .before .before .before .before .loop in
-    queue-told (start .args .t1) (start .args .clock) (start .args .t2) (start .args .sender) (c .unfit .result) (c .unfit .ensures) (loop .i) (omega arith) (too-many (start .args .t1) (start .args .clock) (start .args .t2) (loop .i) (omega arith))
+    queue-told (start .args .t1) (start .args .clock) (start .args .t2) (start .args .sender) (c .unfit .ensures) (loop .i) (omega arith) (too-many (start .args .t1) (start .args .clock) (start .args .t2) (loop .i) (omega arith))
 
 cast-load-fits : tie.Need-cast-load-fits Inv-loop μ-loop
 cast-load-fits c = omega arith
@@ -66,7 +66,7 @@ returns-2 : tie.Need-returns-2 Inv-loop μ-loop
 returns-2 c =
     let start = c .before .before .before .before .before .before .before .before .before .before .before in
     let loop = c .before .before .before .before .before .before .before .before .before .before .loop in
-    queue-told (start .args .t1) (start .args .clock) (start .args .t2) (start .args .sender) (c .unfit2 .result) (c .unfit2 .ensures) (loop .i) (omega arith)
+    queue-told (start .args .t1) (start .args .clock) (start .args .t2) (start .args .sender) (c .unfit2 .ensures) (loop .i) (omega arith)
     (load-unfit (start .args .t1) (start .args .clock) (start .args .t2) (loop .i) (sym (not-true (c .before .before .load-fits .result) (c .before .if4 .taken)) ∙ c .before .before .load-fits .ensures))
 
 mul-if5 : tie.Need-mul-if5 Inv-loop μ-loop
@@ -88,7 +88,7 @@ returns-3 : tie.Need-returns-3 Inv-loop μ-loop
 returns-3 c =
     let start = c .before .before .before .before .before .before in
     let loop = c .before .before .before .before .before .loop in
-    queue-told (start .args .t1) (start .args .clock) (start .args .t2) (start .args .sender) (c .unfit3 .result) (c .unfit3 .ensures) (loop .i) (omega arith) (mark-above (start .args .t1) (start .args .clock) (start .args .t2) (loop .i) (omega arith))
+    queue-told (start .args .t1) (start .args .clock) (start .args .t2) (start .args .sender) (c .unfit3 .ensures) (loop .i) (omega arith) (mark-above (start .args .t1) (start .args .clock) (start .args .t2) (loop .i) (omega arith))
 
 mul-u16-as-u64 : tie.Need-mul-u16-as-u64 Inv-loop μ-loop
 mul-u16-as-u64 c = omega arith
@@ -135,7 +135,7 @@ returns-4 : tie.Need-returns-4 Inv-loop μ-loop
 returns-4 c =
     let start = c .before .before .before .before in
     let loop = c .before .before .before .loop in
-    all-told (start .args .t1) (start .args .clock) (start .args .t2) (start .args .sender) _ (loop .i) (omega arith) (omega arith) (queues-eight (start .args .t2) _ (start .good .1 .0)) (loop .inv .1) (loop .inv .3)
+    all-told (start .args .t1) (start .args .clock) (start .args .t2) (start .args .sender) (loop .i) (omega arith) (omega arith) (queues-eight (start .args .t2) _ (start .good .1 .0)) (loop .inv .1) (loop .inv .3)
     (sends-nothing (start .args .clock) (start .args .t2) (ap viewSender (c .enum-told .given .1)))
 
 unfit-requires-4 : tie.Need-unfit-requires-4 Inv-loop μ-loop
@@ -145,7 +145,7 @@ returns-5 : tie.Need-returns-5 Inv-loop μ-loop
 returns-5 c =
     let start = c .before .before .before .before .before .before .before in
     let told = c .before .before .before .sender .given in
-    sender-told (start .args .t1) (start .args .clock) (start .args .t2) (start .args .sender) (c .unfit4 .result) (c .unfit4 .ensures) (no-queue (start .args .clock) (start .args .t2) (told .0 .0) (told .0 .1 .0) (ap viewSender (told .1)) (omega arith))
+    sender-told (start .args .t1) (start .args .clock) (start .args .t2) (start .args .sender) (c .unfit4 .ensures) (no-queue (start .args .clock) (start .args .t2) (told .0 .0) (told .0 .1 .0) (ap viewSender (told .1)) (omega arith))
 
 cast-head : tie.Need-cast-head Inv-loop μ-loop
 cast-head c = omega arith
@@ -159,14 +159,24 @@ array-copy-out-head c = omega arith
 head-fits-requires : tie.Need-head-fits-requires Inv-loop μ-loop
 head-fits-requires c κs = search needs
 
+unfit-requires-5 : tie.Need-unfit-requires-5 Inv-loop μ-loop
+unfit-requires-5 c κs = search needs
+
 returns-6 : tie.Need-returns-6 Inv-loop μ-loop
 returns-6 c =
-    let start = c .before .before .before .before .before .before .before .before in
-    let loop = c .before .before .before .before .before .before .before .loop in
-    let told = c .before .before .before .before .sender .given in
-    all-told (start .args .t1) (start .args .clock) (start .args .t2) (start .args .sender) _ (loop .i) (omega arith) (omega arith)
+    let start = c .before .before .before .before .before .before .before .before .before .before in
+    let told = c .before .before .before .before .before .before .sender .given in
+    sender-told (start .args .t1) (start .args .clock) (start .args .t2) (start .args .sender) (c .unfit5 .ensures)
+    (sym (not-true (c .before .before .head-fits .result) (c .before .if7 .taken)) ∙ rw (ap viewSender (told .1)) (c .before .before .head-fits .ensures (start .args .t2) (told .0 .0) (omega arith) refl))
+
+returns-7 : tie.Need-returns-7 Inv-loop μ-loop
+returns-7 c =
+    let start = c .before .before .before .before .before .before .before .before .before in
+    let loop = c .before .before .before .before .before .before .before .before .loop in
+    let told = c .before .before .before .before .before .sender .given in
+    all-told (start .args .t1) (start .args .clock) (start .args .t2) (start .args .sender) (loop .i) (omega arith) (omega arith)
     (queues-eight (start .args .t2) _ (start .good .1 .0)) (loop .inv .1) (loop .inv .3)
-    (rw (ap viewSender (told .1)) (c .head-fits .ensures (start .args .t2) (told .0 .0) (omega arith) refl))
+    (sym (not-false (c .before .head-fits .result) (c .if7 .left)) ∙ rw (ap viewSender (told .1)) (c .before .head-fits .ensures (start .args .t2) (told .0 .0) (omega arith) refl))
 
 pub queues-fit-spec : {M : Type 1} → statement M
 queues-fit-spec =
@@ -208,4 +218,6 @@ queues-fit-spec =
     mul-head
     array-copy-out-head
     head-fits-requires
-    returns-6)
+    unfit-requires-5
+    returns-6
+    returns-7)

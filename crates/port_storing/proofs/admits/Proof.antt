@@ -13,10 +13,10 @@ returns : tie.Need-returns
 returns c = let s = c .before .before in λ n. other-line (viewLink n (s .args .link)) (s .args .line) (s .args .«length») (λ e. c .if1 .taken (c .before .u8-as-u64 .ensures .0 ∙ e))
 
 returns-2 : tie.Need-returns-2
-returns-2 c = let s = c .before .before .before .before in λ n. too-short (viewLink n (s .args .link)) (s .args .line) (s .args .«length») (omega arith) (c .if2 .taken)
+returns-2 c = let s = c .before .before .before .before in λ n. too-short (viewLink n (s .args .link)) (s .args .line) (s .args .«length») (omega arith) (omega arith)
 
 returns-3 : tie.Need-returns-3
-returns-3 c = let s = c .before .before .before .before .before in λ n. not-too-long (viewLink n (s .args .link)) (s .args .line) (s .args .«length») (omega arith) (c .before .if2 .left)
+returns-3 c = let s = c .before .before .before .before .before in λ n. not-too-long (viewLink n (s .args .link)) (s .args .line) (s .args .«length») (omega arith) (omega arith)
 
 pub admits-spec : {M : Type 1} → statement M
 admits-spec = tie.close (tie.spec u8-as-u64-requires returns returns-2 returns-3)

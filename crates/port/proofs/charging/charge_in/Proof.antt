@@ -43,11 +43,10 @@ use denote.Triple.Table.{entered, cited}
 use denote.Triple.Walked.{says, needs, Stays, stay-dropped, walkOf, AllGo, goes-dropped, Walks, ends-at, walked, walk-meets}
 use denote.Exit.{yes}
 use denote.Triple.Clauses.{ensured, lasts}
-use Rattle.model.specs.Link.{VirtualLink, bag as bagOfLink}
 use Rattle.model.specs.Port.{blankAccount}
 use Rattle.port_policing.specs.declared.Account.{Account}
 use Rattle.port_policing.specs.declared.Checked.{Checked}
-use Rattle.port_policing.specs.Check.{recordAccount, checkOf}
+use Rattle.port_policing.specs.Check.{recordAccount, checkBy}
 use Rattle.port.specs.declared.Port.{Port}
 use Rattle.port.specs.declared.charging.Charged.{Charged}
 use Rattle.port.specs.Charging.{withAccounts}
@@ -131,7 +130,7 @@ module _ {M : Type 1} (𝓤 : URA M) (H : Heap 𝓤) (A : Atoms 𝓤) (W : Given
 
   -- what is said of the account y and the flag r
   abbrev Said : Account → Bool → Type 0
-  Said y r = (v : VirtualLink) → bagOfLink v ≡ bag → v .jitter ≡ jitter → record { passed = r; account = y } ≡ checkOf v (getD xs i none) time
+  Said y r = record { passed = r; account = y } ≡ checkBy bag jitter (getD xs i none) time
 
   -- the result: the account y at i, and r
   abbrev all : Account → Bool → Charged
@@ -178,7 +177,7 @@ module _ {M : Type 1} (𝓤 : URA M) (H : Heap 𝓤) (A : Atoms 𝓤) (W : Given
   exits : (y : Account) (r : Bool) → Said y r → Is L.the-row (all y r) (L′.lowered (all y r) ∷ []) → ent 𝓤 (sem 𝓤 H A ftrue) (Post (L′.lowered (all y r)))
   exits y r e is =
       qed W (‵ ftrue ∷ []) ∵
-      suffices ! _ (ends-at 𝓤 H A f.ended stayed (f.clauses 𝓤 H A mem run) W ((tt, tt, tt, x, at), tt) (L′.lowered (all y r)) (all y r) (tt, (tt, (tt, (tt, (tt, tt))))) (tt, (tt, (tt, (tt, (tt, tt)))))) $ says ! (λ v b j. ap (λ (c : Checked). all (c .account) (c .passed)) (e v b j)) $
+      suffices ! _ (ends-at 𝓤 H A f.ended stayed (f.clauses 𝓤 H A mem run) W ((tt, tt, tt, x, at), tt) (L′.lowered (all y r)) (all y r) (tt, (tt, (tt, (tt, (tt, tt))))) (tt, (tt, (tt, (tt, (tt, tt)))))) $ says ! (ap (λ (c : Checked). all (c .account) (c .passed)) e) $
       frame ! $ owned ! L.the-row (Is L.the-row) (LL.makes L.the-type L′.the-plain 𝓤 H A) (all y r) _ is $
       nothing ! $ nothing ! $ fjoin ! $ nothing ! $ fjoin ! $ nothing ! $ fjoin ! $ nothing ! $ fjoin ! $ nothing ! $ fjoin ! $ done !
 

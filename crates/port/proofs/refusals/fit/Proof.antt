@@ -1,5 +1,6 @@
-use mathlib.Core.Path.{sym, _∙_}
+use mathlib.Core.Path.{sym, ap, _∙_}
 use borrow.Author.Tests.{not-true, not-false}
+use Rattle.port_queue_fitness.specs.declared.Fitness.{Fitness}
 use Rattle.table_lookup.proofs.Tables.{counts-pass}
 use Rattle.port.proofs.Conditions.{table-refused, clock-late, queues-unfit, lines-unfit, accounts-decide}
 use borrow.Author.Needs.{needs}
@@ -29,7 +30,7 @@ unfit-requires-3 c κs = search needs
 
 returns-3 : tie.Need-returns-3
 returns-3 c =
-    queues-unfit (c .before .before .before .before .before .before .before .before .before .args .p) (c .unfit3 .result) (c .unfit3 .ensures) (sym (not-true (c .before .before .before .queues-fit .result .fits) (c .before .if3 .taken)) ∙ c .before .before .before .queues-fit .ensures .fits-is)
+    queues-unfit (c .before .before .before .before .before .before .before .before .before .args .p) (c .unfit3 .result) (c .unfit3 .ensures) (sym (not-true (c .before .before .before .queues-fit .result .fits) (c .before .if3 .taken)) ∙ ap (λ (r : Fitness). r .fits) (c .before .before .before .queues-fit .ensures))
 
 lines-fit-requires : tie.Need-lines-fit-requires
 lines-fit-requires c κs =

@@ -9,10 +9,9 @@ use Rattle.table.specs.View.{viewLink, blankFields}
 use Rattle.port_scheduler.specs.declared.Frame.{Frame}
 use Rattle.port.specs.declared.Port.{Port}
 use Rattle.port.specs.View.{viewReport}
-use Rattle.port.specs.Charging.{chargeOf}
 use Rattle.table_lookup.proofs.Tables.{Passing}
 use Rattle.port.proofs.Whole.{Whole, whole}
-use Rattle.port.proofs.Answers.{NotRefused, is-wait, is-frame, passed, ready, found-at, found-nowhere, line-in, length-most, priority-in, roomy, reached, waits, arrives-nowhere, is-filtered, is-policed, is-settled}
+use Rattle.port.proofs.Answers.{NotRefused, chargeOf, is-wait, is-frame, passed, ready, found-at, found-nowhere, line-in, length-most, priority-in, roomy, reached, waits, arrives-nowhere, charged-of-link, is-filtered, is-policed, is-settled}
 use borrow.Author.Needs.{needs}
 use Rattle.port.proofs.reports.report.Statement.{statement}
 use Rattle.port.proofs.reports.report.Tie as tie
@@ -87,7 +86,7 @@ module _ (c : tie.After-charge-in) where
   before-charge = reached (start (framed (found filtered)) .args .p) (entire (start (framed (found filtered)))) (time (framed (found filtered))) (c .before .before .before .before .before .before .before .before .before .before .before .before .before .before .before .before .before .before .before .before .before .before .before .advance .ensures) (line (framed (found filtered))) (number (framed (found filtered))) (len (framed (found filtered))) (place (found filtered))
 
   charges : c .charge-in .result ≡ chargeOf (link filtered) before-charge (place (found filtered)) (time (framed (found filtered)))
-  charges = c .charge-in .ensures (link filtered) (sym (c .before .before .bag .ensures)) (sym (c .before .u32-as-u64 .ensures .0))
+  charges = charged-of-link (link filtered) before-charge (place (found filtered)) (time (framed (found filtered))) (c .before .before .bag .ensures) (c .before .u32-as-u64 .ensures .0) (c .charge-in .ensures)
 
 tick-of-requires : tie.Need-tick-of-requires
 tick-of-requires c κs = search needs

@@ -4,8 +4,8 @@ use native.Mathlib.Omega.{arith}
 use Rattle.table.specs.View.{viewTable}
 use Rattle.table.proofs.Shape.{sized}
 use Rattle.table_file.proofs.Answers.{table-refused, no-room, wrote-all, count-few, length-shown, file-laid}
-use Rattle.table_file.proofs.write.Statement.{statement}
-use Rattle.table_file.proofs.write.Tie as tie
+use Rattle.table_file.proofs.writer.write.Statement.{statement}
+use Rattle.table_file.proofs.writer.write.Tie as tie
 
 counts-record-requires : tie.Need-counts-record-requires
 counts-record-requires c κs = search needs
