@@ -4,11 +4,12 @@ use port_queue_fitness::Fitness;
 use port_scheduler::Queue;
 use port_scheduler::Sender;
 use table::Table;
-ghost use Rattle.port_record_fitness.specs.Fitness.{Tested};
+ghost use mathlib.Core.Path.{_≡_};
+ghost use Rattle.port_record_fitness.specs.Fitness.{portFitness};
 
-// Whether the record of these parts is fit, condition by condition, and, if it is, how many frames it holds.
+// Whether the record of these parts is fit, condition by condition, and how many frames it holds, if it is.
 pub fn fit(t: Table, clock: u64, queues: [Queue; 8], sender: Sender, gate: Gate) -> Fitness
-    ensures { λ r. ⌜ Tested t clock queues sender gate r ⌝ }
+    ensures { λ r. ⌜ r ≡ portFitness t clock queues sender gate ⌝ }
 {
     if table::check(t) != 0 {
         return port_queue_fitness::unfit();
