@@ -4,7 +4,8 @@ use mathlib.Core.List.{List, [], _∷_}
 use Prim.Native.Nat.{ℕ, zero, suc}
 use native.Mathlib.Omega.{arith}
 use Rattle.model.specs.Table.{Table, tableRefusal}
-use Rattle.model.specs.Report.{Port, fresh, Report, Answer, Call}
+use Rattle.model.specs.Port.{Port, fresh}
+use Rattle.model.specs.Report.{Report, Answer, Call}
 use Rattle.model.specs.Run.{Entry, run}
 use Rattle.model.proofs.Theorems.{demand-three}
 use Rattle.table.specs.declared.Table.{Table as TableRecord}

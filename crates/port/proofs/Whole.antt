@@ -15,14 +15,15 @@ use Rattle.port.proofs.Port.{the-type}
 pub record Whole (p : PortRecord) : Type 0 where
   pub table : Sized (p .table)
   pub queues : length (p .queues) ≡ 8
-  pub lines : length (p .«line_ticks») ≡ 24
-  pub accounts : length (p .accounts) ≡ 256
+  pub lines : length (p .gate .«line_ticks») ≡ 24
+  pub accounts : length (p .gate .accounts) ≡ 256
 
 pub whole : (p : PortRecord) (vs : List Val) → Is (row the-type) p vs → Whole p
 whole p vs s =
+    let gate = s .1 .1 .1 .1 .1 .1 .0 in
     record {
       table = sized (p .table) _ (s .1 .1 .0);
       queues = sym (length-map (p .queues) (queue-field .into)) ∙ s .1 .1 .1 .1 .0 .1 .0 .1;
-      lines = sym (length-map (p .«line_ticks») (u64-field .into)) ∙ s .1 .1 .1 .1 .1 .1 .0 .1 .0 .1;
-      accounts = sym (length-map (p .accounts) (account-field .into)) ∙ s .1 .1 .1 .1 .1 .1 .1 .0 .1 .0 .1;
+      lines = sym (length-map (p .gate .«line_ticks») (u64-field .into)) ∙ gate .1 .1 .0 .1 .0 .1;
+      accounts = sym (length-map (p .gate .accounts) (account-field .into)) ∙ gate .1 .1 .1 .0 .1 .0 .1;
     }

@@ -35,5 +35,5 @@ pub record Answered (p : PortRecord) (r : Report) (before after : List ℕ) (a :
   pub same : (a .refused ≡ 0 → ⊥) → a .port ≡ p
   -- the table stays, and so does what stands behind its counts
   pub table : a .port .table ≡ p .table
-  pub lines-behind : drop (p .table .lines) (a .port .«line_ticks») ≡ drop (p .table .lines) (p .«line_ticks»)
-  pub accounts-behind : drop (p .table .count) (a .port .accounts) ≡ drop (p .table .count) (p .accounts)
+  pub lines-behind : drop (p .table .lines) (a .port .gate .«line_ticks») ≡ drop (p .table .lines) (p .gate .«line_ticks»)
+  pub accounts-behind : drop (p .table .count) (a .port .gate .accounts) ≡ drop (p .table .count) (p .gate .accounts)

@@ -1,7 +1,7 @@
 pub mod View
 pub mod Contracts
-pub mod Fitness
-pub mod Refusals
 pub mod Charging
+pub mod Advancing
+pub mod Judging
 pub mod Resting
 pub mod Calls

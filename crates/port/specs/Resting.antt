@@ -15,6 +15,5 @@ restingWith t accounts =
       clock = 0;
       queues = replicate 8 emptyQueue;
       sender = Idle;
-      «line_ticks» = replicate 24 0;
-      accounts = accounts;
+      gate = record { «line_ticks» = replicate 24 0; accounts = accounts };
     }

@@ -1,37 +1,24 @@
--- The port record and the port of the model; reports; the fresh record.
+-- The port record and the port of the model; the fresh record.
 use mathlib.Core.List.{List, [], map}
 use lib.ListN.{replicate}
 use Rattle.model.specs.Basics.{entries}
 use Rattle.model.specs.Table.{Table, blankTable}
-use Rattle.model.specs.Machine.{at}
-use Rattle.model.specs.Report.{Account, Port, blankAccount, fullAccount, Report, wait, frame}
+use Rattle.model.specs.Port.{Account, Port, blankAccount, fullAccount}
 use Rattle.table.specs.declared.Table.{Table as TableRecord}
 use Rattle.table.specs.View.{viewLinks, viewTable, recordTable}
-use Rattle.port_policing.specs.Check.{viewAccount, recordAccount}
+use Rattle.port_policing.specs.Check.{recordAccount}
 use Rattle.port_scheduler.specs.declared.Queue.{Queue}
 use Rattle.port_scheduler.specs.declared.Sender.the-variants.{Idle}
-use Rattle.port_scheduler.specs.View.{blankEntry, viewQueues, viewMarks, viewSender}
+use Rattle.port_scheduler.specs.View.{blankEntry}
+use Rattle.port_record_fitness.specs.View.{viewParts}
 use Rattle.port.specs.declared.Port.{Port as PortRecord}
-use Rattle.port.specs.declared.Report.{Report as ReportRecord}
-use Rattle.port.specs.declared.Report.the-variants.{Wait, Frame}
 
 -- the table of a port record, and its state: what stands before the counts
 abbrev pub viewPortTable : PortRecord → Table
 viewPortTable p = viewTable (p .table)
 
 unfoldable pub viewPort : PortRecord → Port
-viewPort p =
-    record {
-      scheduler = at (p .clock) (viewQueues (p .queues)) (viewSender (p .sender));
-      marks = viewMarks (p .queues);
-      lineTicks = entries 0 (p .table .lines) (p .«line_ticks»);
-      accounts = entries blankAccount (p .table .count) (map viewAccount (p .accounts));
-    }
-
--- each case of the enum
-abbrev pub viewReport : ReportRecord → Report
-viewReport (Wait time) = wait time
-viewReport (Frame time line number len) = frame time line number len
+viewPort p = viewParts (p .table) (p .clock) (p .queues) (p .sender) (p .gate)
 
 -- ---- the fresh record
 abbrev pub emptyQueue : Queue
@@ -45,8 +32,7 @@ restingPort t accounts =
       clock = 0;
       queues = replicate 8 emptyQueue;
       sender = Idle;
-      «line_ticks» = replicate 24 0;
-      accounts = entries (recordAccount blankAccount) 256 (map recordAccount accounts);
+      gate = record { «line_ticks» = replicate 24 0; accounts = entries (recordAccount blankAccount) 256 (map recordAccount accounts) };
     }
 
 unfoldable pub freshPort : TableRecord → PortRecord

@@ -15,6 +15,6 @@ pub(crate) fn charge_in(mut p: Port, i: usize, bag: u64, jitter: u64, time: u64)
     requires { ⌜ i < 256 ⌝ }
     ensures { λ r. ⌜ r ≡ chargeBy bag jitter p i time ⌝ }
 {
-    let passed = port_policing::charge(&mut p.accounts[i], bag, jitter, time);
+    let passed = port_policing::charge(&mut p.gate.accounts[i], bag, jitter, time);
     Charged { passed, port: p }
 }

@@ -1,10 +1,12 @@
-// An output port: refusals, the fresh port, frame and wait reports.
+// An output port: the fresh port, frame and wait reports.
+mod advancing;
 mod charging;
+mod judging;
 mod refusals;
 mod reports;
 mod resting;
 
-use port_policing::Account;
+use port_policing::Gate;
 use port_scheduler::Queue;
 use port_scheduler::Sender;
 use table::Table;
@@ -17,14 +19,7 @@ pub struct Port {
     pub clock: u64,
     pub queues: [Queue; 8],
     pub sender: Sender,
-    pub line_ticks: [u64; 24],
-    pub accounts: [Account; 256],
-}
-
-// A report: a wait until a tick; or a frame with its tick, line, number and length.
-pub enum Report {
-    Wait(u64),
-    Frame(u64, u64, u64, u64),
+    pub gate: Gate,
 }
 
 // 0 or the number of the refusal; the verdict (0 for a wait), frames and bytes freed, all 0 with a refusal;
@@ -56,13 +51,13 @@ impl Port {
     pub fn frame(self, tick: u64, line: u64, number: u64, length: u64, list: &mut [u64]) -> Answer
         ensures { λ a. ⌜ Answered self (frameReport tick line number «length») (now (list .entry)) (now (list .exit)) a ⌝ }
     {
-        reports::handle(self, Report::Frame(tick, line, number, length), list)
+        reports::frame(self, tick, line, number, length, list)
     }
 
     // The port at a tick at which nothing arrives.
     pub fn wait(self, tick: u64, list: &mut [u64]) -> Answer
         ensures { λ a. ⌜ Answered self (waitReport tick) (now (list .entry)) (now (list .exit)) a ⌝ }
     {
-        reports::handle(self, Report::Wait(tick), list)
+        reports::wait(self, tick, list)
     }
 }

@@ -2,6 +2,7 @@
 use crate::Fresh;
 use crate::Port;
 use port_policing::Account;
+use port_policing::Gate;
 use port_scheduler::Frame;
 use port_scheduler::Queue;
 use port_scheduler::Sender;
@@ -29,8 +30,10 @@ fn resting_with(table: Table, accounts: [Account; 256]) -> Port
         clock: 0,
         queues: [queue; 8],
         sender: Sender::Idle,
-        line_ticks: [0u64; 24],
-        accounts,
+        gate: Gate {
+            line_ticks: [0u64; 24],
+            accounts,
+        },
     }
 }
 

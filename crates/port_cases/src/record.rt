@@ -7,6 +7,7 @@ use little_endian::read4;
 use little_endian::read8;
 use port::Port;
 use port_policing::Account;
+use port_policing::Gate;
 use port_scheduler::Frame;
 use port_scheduler::Queue;
 use port_scheduler::Sender;
@@ -80,8 +81,10 @@ pub(crate) fn port_of(s: &[u8]) -> Port {
         clock: read8(s, 0),
         queues,
         sender,
-        line_ticks,
-        accounts,
+        gate: Gate {
+            line_ticks,
+            accounts,
+        },
     }
 }
 

@@ -125,8 +125,9 @@ pub(crate) fn of_port(port: Port, whole: bool) -> u64 {
     let table = port.table;
     let queues = port.queues;
     let sender = port.sender;
-    let ticks = port.line_ticks;
-    let accounts = port.accounts;
+    let gate = port.gate;
+    let ticks = gate.line_ticks;
+    let accounts = gate.accounts;
     let first = with_table(with(NOTHING, port.clock), table);
     let then = with_sender(with_queues(first, queues, whole), sender);
     with_accounts(with_ticks(then, ticks), accounts)

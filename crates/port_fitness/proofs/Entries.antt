@@ -12,7 +12,7 @@ use denote.Array.{Array}
 use denote.Struct.Declared.{row}
 use Rattle.model.specs.Basics.{entries}
 use Rattle.model.specs.Link.{bagOf}
-use Rattle.model.specs.Report.{blankAccount, accountAt}
+use Rattle.model.specs.Port.{blankAccount, accountAt}
 use Rattle.port_policing.specs.declared.Account.{Account as AccountRecord}
 use Rattle.port_policing.specs.Check.{viewAccount, recordAccount}
 use Rattle.port_policing.proofs.Account.{the-type}

@@ -8,7 +8,7 @@ use lib.Dec.{ltb}
 use borrow.Author.Tests.{ltb-true, lt-ltb, le-ltb, lt-leb, le-leb}
 use lib.ListN.{length, getD}
 use Rattle.model.specs.Machine.{Frame, Sender, sending, idle, queueOf, headOf}
-use Rattle.model.specs.Report.{senderFit}
+use Rattle.model.specs.Fitness.{senderFit}
 use Rattle.model.proofs.Checks.{all-true, true-all}
 use Rattle.port_scheduler.specs.declared.Queue.{Queue}
 use Rattle.port_scheduler.specs.View.{blankEntry, blankQueue, viewQueues}

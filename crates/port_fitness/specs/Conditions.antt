@@ -7,7 +7,7 @@ use lib.ListN.{getD}
 use Rattle.model.specs.Basics.{allTo, allHold, entries}
 use Rattle.model.specs.Link.{VirtualLink, bag, linkAt}
 use Rattle.model.specs.Machine.{Frame}
-use Rattle.model.specs.Report.{Account, accountAt, blankAccount}
+use Rattle.model.specs.Port.{Account, accountAt, blankAccount}
 use Rattle.table.specs.declared.Table.{Table as TableRecord}
 use Rattle.table.specs.View.{viewLinks}
 use Rattle.port_policing.specs.declared.Account.{Account as AccountRecord}

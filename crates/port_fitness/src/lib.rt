@@ -12,7 +12,7 @@ ghost use Prim.Native.Nat.{ℕ, _≤_, _<_};
 ghost use lib.ListN.{getD};
 ghost use Rattle.model.specs.Basics.{allHold};
 ghost use Rattle.model.specs.Machine.{sending};
-ghost use Rattle.model.specs.Report.{senderFit};
+ghost use Rattle.model.specs.Fitness.{senderFit};
 ghost use Rattle.table.specs.View.{viewLink};
 ghost use Rattle.port_scheduler.specs.View.{blankQueue, viewFrame, viewQueues};
 ghost use Rattle.port_fitness.specs.Conditions.{frameFits, linesFit, ticksFit, creditsFit};

@@ -8,7 +8,7 @@ use lib.ListN.{length, getD, set, take, replicate, length-map}
 use lib.Seq.{take-suc, take-all, length-take-le}
 use Rattle.model.specs.Basics.{entries}
 use Rattle.model.specs.Link.{VirtualLink, blankLink, bagOf, linkAt}
-use Rattle.model.specs.Report.{blankAccount, fullAccount}
+use Rattle.model.specs.Port.{blankAccount, fullAccount}
 use Rattle.model.proofs.Entries.{entries-blank, entries-next}
 use Rattle.table.specs.declared.Table.{Table as TableRecord}
 use Rattle.table.specs.View.{blankFields, viewLinks}

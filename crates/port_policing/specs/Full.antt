@@ -1,7 +1,7 @@
 -- The accounts at rest.
 use mathlib.Core.List.{List, map}
 use Rattle.model.specs.Basics.{entries}
-use Rattle.model.specs.Report.{blankAccount, fullAccount}
+use Rattle.model.specs.Port.{blankAccount, fullAccount}
 use Rattle.table.specs.declared.Table.{Table as TableRecord}
 use Rattle.table.specs.View.{viewLinks}
 use Rattle.port_policing.specs.declared.Account.{Account as AccountRecord}

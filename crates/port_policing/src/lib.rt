@@ -1,4 +1,4 @@
-// Internal to the product: the account of a virtual link (a token bucket), the police check, and the accounts at rest.
+// Internal to the product: the account of a virtual link (a token bucket), the police check, the accounts at rest, and the gate.
 use numbers::excess;
 use numbers::u32_as_u64;
 use table::Table;
@@ -11,6 +11,12 @@ ghost use Rattle.port_policing.specs.Full.{fullAccounts};
 pub struct Account {
     pub credit: u64,
     pub tick: u64,
+}
+
+// For each line the tick of its last frame; for each virtual link its account.
+pub struct Gate {
+    pub line_ticks: [u64; 24],
+    pub accounts: [Account; 256],
 }
 
 // Whether the frame passed, and the account after it.

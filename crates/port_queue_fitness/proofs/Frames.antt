@@ -12,7 +12,7 @@ use Rattle.model.specs.Basics.{allHold, entries}
 use Rattle.model.specs.Link.{linkAt, placeOf}
 use Rattle.model.specs.Table.{Table}
 use Rattle.model.specs.Machine.{Frame, blankFrame}
-use Rattle.model.specs.Report.{namesLink, framesFit}
+use Rattle.model.specs.Fitness.{namesLink, framesFit}
 use Rattle.port_scheduler.specs.declared.Queue.{Queue}
 use Rattle.port_scheduler.specs.View.{viewFrame, blankEntry, viewQueue}
 use Rattle.port_scheduler.proofs.Shown.{entries-take}

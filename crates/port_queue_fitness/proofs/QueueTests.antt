@@ -12,7 +12,7 @@ use Rattle.model.specs.Link.{linkAt, placeOf}
 use Rattle.model.specs.Table.{tableRefusal}
 use Rattle.model.specs.Basics.{provided, allTo, allHold}
 use Rattle.model.specs.Machine.{Frame, queueOf, bytes, held, framesHeld}
-use Rattle.model.specs.Report.{framesFit, senderFit}
+use Rattle.model.specs.Fitness.{framesFit, senderFit}
 use Rattle.model.proofs.Checks.{all-true, true-all}
 use Rattle.table.specs.declared.Table.{Table as TableRecord}
 use Rattle.table.specs.View.{viewLink, blankFields, viewLinks, viewTable}

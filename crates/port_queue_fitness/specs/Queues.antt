@@ -7,7 +7,7 @@ use lib.ListN.{length, getD}
 use Rattle.model.specs.Basics.{provided, allTo, allHold}
 use Rattle.model.specs.Units.{mostFrames}
 use Rattle.model.specs.Machine.{queueOf, held, framesHeld}
-use Rattle.model.specs.Report.{framesFit, senderFit}
+use Rattle.model.specs.Fitness.{framesFit, senderFit}
 use Rattle.table.specs.declared.Table.{Table as TableRecord}
 use Rattle.table.specs.View.{viewTable}
 use Rattle.port_scheduler.specs.declared.Queue.{Queue}

@@ -6,10 +6,10 @@ use lib.ListN.{getD, set}
 use Rattle.model.specs.Units.{lastTick}
 use Rattle.model.specs.Table.{Table}
 use Rattle.model.specs.Machine.{Frame, at, queueOf, queuedLast, framesHeld}
-use Rattle.model.specs.Report.{Port}
+use Rattle.model.specs.Port.{Port}
 use Rattle.model.proofs.Queues.{each-map}
 use Rattle.model.proofs.Lined.{lined-meets}
-use Rattle.model.proofs.Fitness.{Fit}
+use Rattle.model.proofs.Fitness.{FitPort}
 use Rattle.port_scheduler.specs.declared.Frame.{Frame as FrameRecord}
 use Rattle.port_scheduler.specs.declared.Queue.{Queue}
 use Rattle.port_scheduler.specs.declared.Sender.{Sender as SenderRecord}
@@ -18,7 +18,7 @@ use Rattle.port_scheduler.specs.Contracts.{Pushed, Ready}
 use Rattle.port_scheduler.proofs.Shown.{queue-shown, queues-set}
 
 -- the port's fitness, its tick tests and refusal 16 are what an advance asks
-pub fit-ready : (t : Table) (port : Port) {qs : List Queue} {s : SenderRecord} {clock time len : ℕ} → Fit t port → port .scheduler ≡ at clock (viewQueues qs) (viewSender s) →
+pub fit-ready : (t : Table) (port : Port) {qs : List Queue} {s : SenderRecord} {clock time len : ℕ} → FitPort t port → port .scheduler ≡ at clock (viewQueues qs) (viewSender s) →
     clock ≤ time → time ≤ lastTick → 3 * framesHeld (viewQueues qs) ≤ len → Ready qs s clock time len
 fit-ready t port {qs} {s} {clock} {time} {len} k e later early room =
     record {

@@ -9,11 +9,12 @@ use borrow.Author.Tests.{ltb-true}
 use lib.ListN.{length, getD, take, drop, set, length-set, length-append, length-drop, List·getD-eq-default}
 use Rattle.model.specs.Basics.{Each, done}
 use Rattle.model.specs.Units.{occupied, mostFrames}
-use Rattle.model.specs.Machine.{Frame, Sender, idle, sending, Departure, Advance, at, advanced, advance, joined, departure, queueOf, headOf, withoutHead, framesHeld}
-use Rattle.model.specs.Report.{senderFit, threeNumbers, bytesFreed}
+use Rattle.model.specs.Machine.{Frame, Sender, idle, sending, Departure, Advance, at, advanced, advance, preceded, departure, queueOf, headOf, withoutHead, framesHeld}
+use Rattle.model.specs.Fitness.{senderFit}
+use Rattle.model.specs.Report.{threeNumbers, bytesFreed}
 use Rattle.model.proofs.Checks.{all-true}
 use Rattle.model.proofs.BusyPeriod.{set-keeps, pop-each}
-use Rattle.model.proofs.FrameByFrame.{under-way, sent, joined-joined}
+use Rattle.model.proofs.FrameByFrame.{under-way, sent, preceded-preceded}
 use Rattle.port_scheduler.specs.declared.Queue.{Queue}
 use Rattle.port_scheduler.specs.declared.Sender.{Sender as SenderRecord}
 use Rattle.port_scheduler.specs.declared.Sender.the-variants.{Idle, Sending}
@@ -29,7 +30,7 @@ Few queues = (p : ℕ) → length (queueOf queues p) ≤ mostFrames
 
 pub record Progress (time : ℕ) (whole : Advance) (high list₀ : List ℕ) (qs : List Queue) (s : SenderRecord) (m k b : ℕ) (list : List ℕ) : Type 0 where
   pub gone : List Departure
-  pub split : whole ≡ joined gone (advanceFrom time m qs s)
+  pub split : whole ≡ preceded gone (advanceFrom time m qs s)
   pub marks : viewMarks qs ≡ high
   pub eight : length qs ≡ 8
   pub few : Few (viewQueues qs)
@@ -134,13 +135,13 @@ module _ {time : ℕ} {whole : Advance} {high list₀ : List ℕ} {qs : List Que
           let head = headOf (viewQueues qs) p in
           let j : advanceFrom time m qs s ≡ advance time (at m (viewQueues qs) (sending p start)) = rw e at (g .same) in
           let later = advance time (at (start + head .length) (withoutHead (viewQueues qs) p) idle) in
-          let w : whole ≡ joined (f .gone) (joined (departure head (start + head .length) ∷ []) later) =
+          let w : whole ≡ preceded (f .gone) (preceded (departure head (start + head .length) ∷ []) later) =
           rw (f .split, j, sent (viewQueues qs) p start time m (o .ends) (omega arith)) in
           let d : Departure = record { number = n; length = len; freed = start + len } in
           let i : p < length (viewQueues qs) = omega (arith, f .eight, o .inRange) in
           record {
             gone = f .gone ++ (d ∷ []);
-            split = rw (gone-shown qs p hg, le, ne) (w ∙ joined-joined (f .gone) (departure head (start + head .length) ∷ []) later);
+            split = rw (gone-shown qs p hg, le, ne) (w ∙ preceded-preceded (f .gone) (departure head (start + head .length) ∷ []) later);
             marks = marks-set qs p rest (hg .mark) ∙ f .marks;
             eight = rw length-set (f .eight);
             few =

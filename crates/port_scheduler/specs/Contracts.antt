@@ -7,7 +7,8 @@ use lib.ListN.{length, getD}
 use Rattle.model.specs.Basics.{Each}
 use Rattle.model.specs.Units.{lastTick, mostFrames}
 use Rattle.model.specs.Machine.{Frame, Advance, at, advance, queueOf, framesHeld}
-use Rattle.model.specs.Report.{senderFit, listed, bytesFreed}
+use Rattle.model.specs.Fitness.{senderFit}
+use Rattle.model.specs.Report.{listed, bytesFreed}
 use Rattle.port_scheduler.specs.declared.Frame.{Frame as FrameRecord}
 use Rattle.port_scheduler.specs.declared.Queue.{Queue}
 use Rattle.port_scheduler.specs.declared.Sender.{Sender as SenderRecord}

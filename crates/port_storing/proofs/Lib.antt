@@ -1,3 +1,3 @@
-pub mod Judging
+pub mod Room
 pub mod Marked
 pub mod Settling

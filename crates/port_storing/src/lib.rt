@@ -1,15 +1,11 @@
-// Internal to the product: the filter, and a frame that passed the police check, stored or dropped.
-use numbers::u8_as_u64;
+// Internal to the product: a frame that passed the police check, stored or dropped.
 use numbers::u32_as_u64;
 use port_scheduler::Frame;
 use port_scheduler::Queue;
-use table::VirtualLink;
 ghost use mathlib.Core.Path.{_≡_};
-ghost use Prim.Native.Nat.{ℕ, _+_, _≤_, _<_, _^_, max};
+ghost use Prim.Native.Nat.{_+_, _≤_, _<_, _^_, max};
 ghost use lib.Dec.{leb};
 ghost use Rattle.model.specs.Units.{mostFrames};
-ghost use Rattle.model.specs.Report.{admits as admitsFrame};
-ghost use Rattle.table.specs.View.{viewLink};
 ghost use Rattle.port_storing.specs.Storing.{Stored, Roomy, Settles};
 
 // The verdict of a frame that passed the police check, and the queue of its link's priority after it.
@@ -25,19 +21,6 @@ fn larger(x: u32, y: u32) -> u32
         return y;
     }
     x
-}
-
-// The filter, where a link has the frame's number.
-pub fn admits(link: VirtualLink, line: u64, length: u16) -> bool
-    ensures { λ r. ⌜ ((n : ℕ) → r ≡ admitsFrame (viewLink n link) line length) ⌝ }
-{
-    if u8_as_u64(link.line) != line {
-        return false;
-    }
-    if length < link.least {
-        return false;
-    }
-    length <= link.greatest
 }
 
 // Whether so many bytes more are within the size; no sum wraps.

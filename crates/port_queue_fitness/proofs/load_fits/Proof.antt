@@ -4,7 +4,7 @@ use Prim.Native.Nat.{_-_, _*_, _≤_}
 use native.Mathlib.Omega.{arith}
 use borrow.Author.Tests.{not-true, not-false}
 use lib.ListN.{drop}
-use Rattle.model.specs.Report.{framesFit}
+use Rattle.model.specs.Fitness.{framesFit}
 use Rattle.table.specs.View.{viewTable}
 use Rattle.table.proofs.PassingRecord.{counts-pass}
 use Rattle.port_scheduler.specs.View.{viewQueue}

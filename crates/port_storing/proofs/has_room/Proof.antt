@@ -1,4 +1,4 @@
-use Rattle.port_storing.proofs.Judging.{too-large, room-left}
+use Rattle.port_storing.proofs.Room.{too-large, room-left}
 use Rattle.port_storing.proofs.has_room.Statement.{statement}
 use Rattle.port_storing.proofs.has_room.Tie as tie
 

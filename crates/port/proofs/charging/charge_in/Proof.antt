@@ -1,8 +1,8 @@
--- `port::charging::charge_in` meets its contract: a walk of its MIR, by hand. The port is copied into a local that lies in memory; the field `accounts` is taken out of the port's cell, element i of it is lent to `charge`, for a lifetime that is made for the call, and comes back (`Element.antt`), and the field is put back.
+-- `port::charging::charge_in` meets its contract: a walk of its MIR, by hand. The port is copied into a local that lies in memory; the field `gate.accounts` is taken out of the port's cell, element i of it is lent to `charge`, for a lifetime that is made for the call, and comes back (`Element.antt`), and the field is put back.
 -- All that the proof knows of `charge` is that it meets its contract.
 -- Assumes nothing.
 use mathlib.Core.Path.{_≡_, refl, sym, ap, subst}
-use Prim.Native.Nat.{ℕ, _<_, _^_, _*_}
+use Prim.Native.Nat.{ℕ, _+_, _<_, _^_, _*_}
 use native.Mathlib.Omega.{arith}
 use mathlib.Core.Bool.{Bool}
 use mathlib.Core.List.{[], _∷_, _++_, List, map}
@@ -43,23 +43,26 @@ use denote.Triple.Table.{entered, cited}
 use denote.Triple.Walked.{says, needs, Stays, stay-dropped, walkOf, AllGo, goes-dropped, Walks, ends-at, walked, walk-meets}
 use denote.Exit.{yes}
 use denote.Triple.Clauses.{ensured, lasts}
-use Rattle.model.specs.Report.{blankAccount}
+use Rattle.model.specs.Port.{blankAccount}
 use Rattle.port_policing.specs.declared.Account.{Account}
 use Rattle.port_policing.specs.declared.Checked.{Checked}
+use Rattle.port_policing.specs.declared.Gate.{Gate}
 use Rattle.port_policing.specs.Check.{recordAccount, checkBy}
 use Rattle.port.specs.declared.Port.{Port}
 use Rattle.port.specs.declared.charging.Charged.{Charged}
-use Rattle.port.specs.Charging.{withAccounts}
+use Rattle.port.specs.Charging.{gateWith, portWith}
 use Rattle.table.proofs.Table.Laws as Table′
 use Rattle.port_scheduler.proofs.Queue.Laws as Queue′
 use Rattle.port_scheduler.proofs.Sender.Laws as Sender′
+use Rattle.port_policing.proofs.Gate as G
+use Rattle.port_policing.proofs.Gate.Laws as G′
 use Rattle.port_policing.proofs.Account as T
 use Rattle.port_policing.proofs.Account.Laws as T′
 use Rattle.port.proofs.Port as P
 use Rattle.port.proofs.Port.Laws as P′
 use Rattle.port.proofs.charging.Charged as L
 use Rattle.port.proofs.charging.Charged.Laws as L′
-use Rattle.port.proofs.Element.{of-field, spot, elem, Lent, τ, lends-elem, elem-home}
+use Rattle.port.proofs.Element.{layout, of-field, spot, elem, Lent, τ, lends-elem, elem-home}
 use Rattle.port_policing.proofs.charge as charge
 use Rattle.port_policing.proofs.charge.Symbol as charge-def
 use Rattle.port_policing.proofs.charge.Symbol.{name as #port-policing·charge}
@@ -87,7 +90,7 @@ vals = LL.vals T.the-type T′.the-laws
 
 -- where the accounts stand in the port
 abbrev off : ℕ
-off = 28864
+off = layout P′.mir 4 + layout G′.mir 1
 
 -- what `getD` gives past the end, which is never read
 abbrev none : Account
@@ -105,8 +108,15 @@ module _ {M : Type 1} (𝓤 : URA M) (H : Heap 𝓤) (A : Atoms 𝓤) (W : Given
   abbrev Arg : Type 0
   Arg = Port × (ℕ × (ℕ × (ℕ × (ℕ × Unit {0}))))
 
+  abbrev g : Gate
+  g = d .gate
+
   abbrev xs : List Account
-  xs = d .accounts
+  xs = g .accounts
+
+  -- the port with the accounts ys
+  abbrev with : List Account → Port
+  with ys = portWith d (gateWith g ys)
 
   abbrev x : Arg
   x = (d, (i, (bag, (jitter, (time, tt)))))
@@ -126,7 +136,7 @@ module _ {M : Type 1} (𝓤 : URA M) (H : Heap 𝓤) (A : Atoms 𝓤) (W : Given
       (vcons (vint w64 (d .clock))
       (vcons (vstruct (ofList (map Queue′.lowered (d .queues))))
       (vcons (Sender′.lowered (d .sender))
-      (vcons (vstruct (ofList (map (λ (n : ℕ). vint w64 n) (d .«line_ticks»)))) (vcons u vnil))))))
+      (vcons (vstruct (vcons (vstruct (ofList (map (λ (n : ℕ). vint w64 n) (g .«line_ticks»)))) (vcons u vnil))) vnil)))))
 
   -- what is said of the account y and the flag r
   abbrev Said : Account → Bool → Type 0
@@ -134,36 +144,42 @@ module _ {M : Type 1} (𝓤 : URA M) (H : Heap 𝓤) (A : Atoms 𝓤) (W : Given
 
   -- the result: the account y at i, and r
   abbrev all : Account → Bool → Charged
-  all y r = record { passed = r; port = withAccounts d (set xs i y) }
+  all y r = record { passed = r; port = with (set xs i y) }
 
   -- what whoever holds the port knows of its fields, and what whoever builds one owes
   array-is : Is P.the-row d (P′.lowered d ∷ []) → Is Rs xs (array-vals vals xs)
   array-is p =
-      let q = of-field (T.the-field .row) Account (T.the-field .into) 256 xs (p .0 .1 .1 .1 .1 .1 .0) (p .1 .1 .1 .1 .1 .1 .1 .0) in
-      subst (Is Rs xs) (array-tells R vals (LL.tells T.the-type T′.the-laws) 256 xs (p .0 .1 .1 .1 .1 .1 .0) q) q
+      let k = p .1 .1 .1 .1 .1 .1 .0 in
+      let q = of-field (T.the-field .row) Account (T.the-field .into) 256 xs (k .0 .1 .0) (k .1 .1 .1 .0) in
+      subst (Is Rs xs) (array-tells R vals (LL.tells T.the-type T′.the-laws) 256 xs (k .0 .1 .0) q) q
 
-  port-at : (ys : List Account) (p : Is P.the-row d (P′.lowered d ∷ [])) → Is Rs ys (array-vals vals ys)
-      → Is P.the-row (withAccounts d ys) (vstruct (ofList (p .0 .0 ++ (p .0 .1 .0 ++ (p .0 .1 .1 .0 ++ (p .0 .1 .1 .1 .0 ++ (p .0 .1 .1 .1 .1 .0 ++ (array-vals vals ys ++ []))))))) ∷ [])
-  port-at ys p q = (
-    (p .0 .0, (p .0 .1 .0, (p .0 .1 .1 .0, (p .0 .1 .1 .1 .0, (p .0 .1 .1 .1 .1 .0, (array-vals vals ys, tt)))))),
-    (
-      refl,
-      (p .1 .1 .0, (p .1 .1 .1 .0, (p .1 .1 .1 .1 .0, (p .1 .1 .1 .1 .1 .0, (p .1 .1 .1 .1 .1 .1 .0, (is-same (T.the-field .row) Account (T.the-field .into) (T.the-field .into-one) 256 ys _ q, tt)))))),
-    ),
+  gate-at : (ys : List Account) {us : List Val} (k : Is G.the-row g us) → Is Rs ys (array-vals vals ys) → Is G.the-row (gateWith g ys) (vstruct (ofList (k .0 .0 ++ (array-vals vals ys ++ []))) ∷ [])
+  gate-at ys k q = (
+    (k .0 .0, (array-vals vals ys, tt)),
+    (refl, (k .1 .1 .0, (is-same (T.the-field .row) Account (T.the-field .into) (T.the-field .into-one) 256 ys _ q, tt))),
   )
 
-  port-is : (ys : List Account) → Is P.the-row d (P′.lowered d ∷ []) → Is Rs ys (array-vals vals ys) → Is P.the-row (withAccounts d ys) (P′.lowered (withAccounts d ys) ∷ [])
-  port-is ys p q = subst (Is P.the-row (withAccounts d ys)) (P′.lowers .val-is (withAccounts d ys) _ (port-at ys p q)) (port-at ys p q)
+  port-at : (ys : List Account) (p : Is P.the-row d (P′.lowered d ∷ [])) (us : List Val) → Is G.the-row (gateWith g ys) us
+      → Is P.the-row (with ys) (vstruct (ofList (p .0 .0 ++ (p .0 .1 .0 ++ (p .0 .1 .1 .0 ++ (p .0 .1 .1 .1 .0 ++ (us ++ [])))))) ∷ [])
+  port-at ys p us q = (
+    (p .0 .0, (p .0 .1 .0, (p .0 .1 .1 .0, (p .0 .1 .1 .1 .0, (us, tt))))),
+    (refl, (p .1 .1 .0, (p .1 .1 .1 .0, (p .1 .1 .1 .1 .0, (p .1 .1 .1 .1 .1 .0, (q, tt)))))),
+  )
+
+  port-is : (ys : List Account) → Is P.the-row d (P′.lowered d ∷ []) → Is Rs ys (array-vals vals ys) → Is P.the-row (with ys) (P′.lowered (with ys) ∷ [])
+  port-is ys p q =
+      let a = port-at ys p _ (gate-at ys (p .1 .1 .1 .1 .1 .1 .0) q) in
+      subst (Is P.the-row (with ys)) (P′.lowers .val-is (with ys) _ a) a
 
   made : (y : Account) (r : Bool) → Is P.the-row d (P′.lowered d ∷ []) → Is Rs (set xs i y) (array-vals vals (set xs i y)) → Is L.the-row (all y r) (L′.lowered (all y r) ∷ [])
-  made y r p q = ((vbool r ∷ [], (P′.lowered (withAccounts d (set xs i y)) ∷ [], tt)), (refl, (refl, (port-is (set xs i y) p q, tt))))
+  made y r p q = ((vbool r ∷ [], (P′.lowered (with (set xs i y)) ∷ [], tt)), (refl, (refl, (port-is (set xs i y) p q, tt))))
 
   -- the way back to the port's cell, and the field's cell out of it and back
   abbrev Back : ℕ → SProp 𝓤
   Back b = all∗ 𝓤 (λ (w : Val). wand 𝓤 (H .at fullShare (tyArray T′.mir 256) b off w) (H .at fullShare P′.mir b 0 (mach w)))
 
   field-out : (b : ℕ) (u : Val) → ent 𝓤 (H .at fullShare P′.mir b 0 (mach u)) (sep 𝓤 (H .at fullShare (tyArray T′.mir 256) b off u) (Back b))
-  field-out b u = sub {K = Unit {0}} {W = W} tt {i = ‵ (fat fullShare P′.mir b 0 (mach u))} 5 refl (whole tt) .out
+  field-out b u = sub {K = Unit {0}} {W = W} tt {i = ‵ (fat fullShare P′.mir b 0 (mach u))} 1 refl (sub tt 4 refl (whole tt)) .out
 
   field-back : (b : ℕ) (u : Val) → ent 𝓤 (sep 𝓤 (Back b) (H .at fullShare (tyArray T′.mir 256) b off u)) (H .at fullShare P′.mir b 0 (mach u))
   field-back b u =
@@ -205,7 +221,7 @@ module _ {M : Type 1} (𝓤 : URA M) (H : Heap 𝓤) (A : Atoms 𝓤) (W : Given
         -- [_12; …; _11; …; _10; …; _9; …; _8; …; _7; …; _6; …; _5; …; _4; …; _3; …; _2; …; _1; …; _0; …]
         assigns ! (of-opd ! (load ! (from ! (stop !)) (look ! 22 refl))) (from ! (stop !)) (init ! 12 refl (LL.lawful P.the-type P′.the-laws 𝓤 H A W .typed d _ p .0)) $
         assigns ! (bin ! (load ! (from ! (stop !)) (look ! 20 refl)) (lit ! tt) (record { fits = offset-fits within })) (from ! (stop !)) (init ! 8 refl (tt, record { fits = offset-fits within })) $
-        assigns ! (addr ! (from ! (fld ! refl (stop !)))) (from ! (stop !)) (init ! 6 refl (tt, tt)) $
+        assigns ! (addr ! (from ! (fld ! refl (fld ! refl (stop !))))) (from ! (stop !)) (init ! 6 refl (tt, tt)) $
         assigns ! (bin ! (load ! (from ! (stop !)) (look ! 6 refl)) (load ! (from ! (stop !)) (look ! 8 refl)) tt) (from ! (stop !)) (init ! 4 refl (tt, tt)) $
         rewrite ! 4 (λ (o : ℕ). ‵ (fat fullShare tyPtr l₁₀ 0 (vptr l₆ o))) (sym (place-is 16 off i)) refl $
         assigns ! (addr ! (from ! (hop ! (look ! 4 refl) (stop !)))) (from ! (stop !)) (init ! 2 refl (tt, tt)) $
@@ -229,9 +245,9 @@ module _ {M : Type 1} (𝓤 : URA M) (H : Heap 𝓤) (A : Atoms 𝓤) (W : Given
         use3 W (later (‵ (fat fullShare (τ R 256 l₆ off i) l₆ off (only (array-vals vals (set xs i (zs .0))))) ⊛ ‵ (Rs .own (set xs i (zs .0)) (array-vals vals (set xs i (zs .0))))))
         (elem-home R 256 l₆ off i 𝓤 H A W vals (LL.tells T.the-type T′.the-laws) (ν ∷ []) δ xs (zs .0) (subst (λ (n : ℕ). i < n) (sym (array-is p .1 .0 .1)) within)) $ await ! tt $ split ! $
         move ! (1 ∷ []) $ peeks ! Rs (Is Rs) (shows 𝓤 H A Rs) (set xs i (zs .0)) (array-vals vals (set xs i (zs .0))) (λ p′.
-        move ! (5 ∷ 1 ∷ []) $ use2 W (‵ (fat fullShare P′.mir l₆ 0 (P′.lowered (withAccounts d (set xs i (zs .0)))))) (field-back l₆ (only (array-vals vals (set xs i (zs .0))))) $ move ! (1 ∷ 0 ∷ []) $
+        move ! (5 ∷ 1 ∷ []) $ use2 W (‵ (fat fullShare P′.mir l₆ 0 (P′.lowered (with (set xs i (zs .0)))))) (field-back l₆ (only (array-vals vals (set xs i (zs .0))))) $ move ! (1 ∷ 0 ∷ []) $
         -- [what the array owns; _6; …; …; …; _12; …; _11; …; _10; …; _9; …; _8; …; _7; …; what frees _6; _5; …; _4; …; _3; …; _2; …; _1; …; _0; …]
-        assigns ! (of-opd ! (load ! (from ! (stop !)) (look ! 1 refl))) (from ! (stop !)) (init ! 5 refl (LL.lawful P.the-type P′.the-laws 𝓤 H A W .typed (withAccounts d (set xs i (zs .0))) _ (port-is (set xs i (zs .0)) p p′) .0)) $
+        assigns ! (of-opd ! (load ! (from ! (stop !)) (look ! 1 refl))) (from ! (stop !)) (init ! 5 refl (LL.lawful P.the-type P′.the-laws 𝓤 H A W .typed (with (set xs i (zs .0))) _ (port-is (set xs i (zs .0)) p p′) .0)) $
         assigns ! (agg ! (and-then ! (load ! (from ! (stop !)) (look ! 15 refl)) (and-then ! (load ! (from ! (stop !)) (look ! 5 refl)) (no-more !)))) (from ! (stop !)) (init ! 28 refl (LL.lawful L.the-type L′.the-laws 𝓤 H A W .typed (all (zs .0) r) _ (made (zs .0) r p p′) .0)) $
         returns ! (look ! 28 refl) $ forget ! 1 refl $ forget ! 5 refl $ forget ! 7 refl $ forget ! 9 refl $ forget ! 11 refl $ forget ! 13 refl $ forget ! 15 refl $ forget ! 18 refl $ forget ! 20 refl $ forget ! 22 refl $ forget ! 24 refl $ forget ! 26 refl $ forget ! 28 refl $
         move ! (28 ∷ 29 ∷ []) $ free1 ! $ move ! (26 ∷ 27 ∷ []) $ free1 ! $ move ! (24 ∷ 25 ∷ []) $ free1 ! $ move ! (22 ∷ 23 ∷ []) $ free1 ! $ move ! (20 ∷ 21 ∷ []) $ free1 ! $ move ! (18 ∷ 19 ∷ []) $ free1 ! $ move ! (1 ∷ 17 ∷ []) $ free1 ! $

@@ -1,0 +1,18 @@
+-- The fitness of a whole port record.
+use mathlib.Core.List.{List}
+use Prim.Native.Nat.{ℕ}
+use Rattle.model.specs.Machine.{framesHeld}
+use Rattle.model.specs.Fitness.{fit}
+use Rattle.table.specs.declared.Table.{Table as TableRecord}
+use Rattle.table.specs.View.{viewTable}
+use Rattle.port_policing.specs.declared.Gate.{Gate as GateRecord}
+use Rattle.port_scheduler.specs.declared.Queue.{Queue}
+use Rattle.port_scheduler.specs.declared.Sender.{Sender as SenderRecord}
+use Rattle.port_scheduler.specs.View.{viewQueues}
+use Rattle.port_queue_fitness.specs.declared.Fitness.{Fitness}
+use Rattle.port_queue_fitness.specs.Queues.{fitnessIf}
+use Rattle.port_record_fitness.specs.View.{viewParts}
+
+-- whether the record of these parts is fit, and the frames held if so, else 0
+abbrev pub portFitness : TableRecord → ℕ → List Queue → SenderRecord → GateRecord → Fitness
+portFitness t clock queues sender gate = fitnessIf (fit (viewTable t) (viewParts t clock queues sender gate)) (framesHeld (viewQueues queues))

@@ -1,0 +1,33 @@
+// Internal to the product: the fitness of a whole port record, part by part.
+use port_policing::Gate;
+use port_queue_fitness::Fitness;
+use port_scheduler::Queue;
+use port_scheduler::Sender;
+use table::Table;
+ghost use mathlib.Core.Path.{_≡_};
+ghost use Rattle.port_record_fitness.specs.Fitness.{portFitness};
+
+// Whether the record of these parts is fit, condition by condition, and how many frames it holds, if it is.
+pub fn fit(t: Table, clock: u64, queues: [Queue; 8], sender: Sender, gate: Gate) -> Fitness
+    ensures { λ r. ⌜ r ≡ portFitness t clock queues sender gate ⌝ }
+{
+    if table::check(t) != 0 {
+        return port_queue_fitness::unfit();
+    }
+    if 281474976710655 < clock {
+        return port_queue_fitness::unfit();
+    }
+    let queued = port_queue_fitness::queues_fit(t, queues, sender, clock);
+    if !queued.fits {
+        return port_queue_fitness::unfit();
+    }
+    let line_ticks = gate.line_ticks;
+    if !port_fitness::lines_fit(line_ticks, t.lines, clock) {
+        return port_queue_fitness::unfit();
+    }
+    let accounts = gate.accounts;
+    if !port_fitness::accounts_fit(accounts, t, clock) {
+        return port_queue_fitness::unfit();
+    }
+    queued
+}

@@ -1,0 +1,17 @@
+use native.Mathlib.Omega.{arith}
+use Rattle.port_refusals.proofs.Refused.{no-room, roomy}
+use borrow.Author.Needs.{needs}
+use Rattle.port_refusals.proofs.room_refusal.Statement.{statement}
+use Rattle.port_refusals.proofs.room_refusal.Tie as tie
+
+mul-if1 : tie.Need-mul-if1
+mul-if1 c = search needs
+
+returns : tie.Need-returns
+returns c = no-room (c .before .args .frames) (c .before .args .room) (c .if1 .taken)
+
+returns-2 : tie.Need-returns-2
+returns-2 c = roomy (c .before .args .frames) (c .before .args .room) (c .if1 .left)
+
+pub room-refusal-spec : {M : Type 1} → statement M
+room-refusal-spec = tie.close (tie.spec mul-if1 returns returns-2)
