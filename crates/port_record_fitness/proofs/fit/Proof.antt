@@ -3,7 +3,7 @@ use borrow.Author.Tests.{not-true, not-false, eq-eqb, ne-eqb, le-leb, lt-leb}
 use Rattle.model.specs.Units.{lastTick}
 use Rattle.model.specs.Table.{tableRefusal}
 use Rattle.table.specs.View.{viewTable}
-use Rattle.table_lookup.proofs.Tables.{counts-pass}
+use Rattle.table.proofs.PassingRecord.{counts-pass}
 use Rattle.port_queue_fitness.specs.declared.Fitness.{Fitness}
 use Rattle.port_record_fitness.proofs.Conditions.{is-unfit, is-fit}
 use borrow.Author.Needs.{needs}
