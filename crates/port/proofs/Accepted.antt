@@ -1,7 +1,7 @@
 -- What the checks of an accepted report tell.
 use mathlib.Core.Path.{_≡_}
 use mathlib.Core.Bool.{true}
-use mathlib.Core.List.{List, [], _∷_}
+use mathlib.Core.List.{[], _∷_}
 use Prim.Native.Nat.{ℕ, _+_, _*_, _≤_}
 use borrow.Author.Tests.{not-false, ltb-false, leb-true, leb-false}
 use Rattle.model.specs.Units.{lastTick, leastLength, greatestLength}

@@ -5,21 +5,18 @@ use mathlib.Core.List.{List}
 use Prim.Native.Nat.{ℕ, zero, suc}
 use native.Mathlib.Omega.{arith}
 use lib.ListN.{length, length-map}
-use Rattle.model.specs.Table.{Table}
-use Rattle.model.specs.Port.{Port}
 use Rattle.model.specs.Fitness.{fit}
-use Rattle.model.specs.Report.{wait, frame, tickOf, Judged, judgeReport, acceptedOr, step, Stepped}
+use Rattle.model.specs.Report.{wait, frame, tickOf, Judged, judgeReport, acceptedOr, Stepped}
 use Rattle.model.proofs.Stepping.{Arrives, movedTo}
 use Rattle.model.proofs.Theorems.{fitness-kept}
 use Rattle.table.specs.View.{viewTable}
 use Rattle.port_scheduler.specs.declared.Queue.{Queue}
-use Rattle.port_scheduler.specs.View.{viewQueues}
 use Rattle.port_scheduler.proofs.Shown.{length-shown}
 use Rattle.port.specs.declared.Port.{Port as PortRecord}
 use Rattle.port.specs.declared.Answer.{Answer as AnswerRecord}
 use Rattle.port.specs.declared.judging.Judged.{Judged as JudgedRecord}
 use Rattle.port.specs.View.{viewPortTable, viewPort}
-use Rattle.port.specs.Contracts.{stepFrom, Answered}
+use Rattle.port.specs.Contracts.{Answered}
 use Rattle.port.specs.Advancing.{Reached, Begun}
 use Rattle.port.specs.Judging.{Arrived, Judges}
 use Rattle.port.proofs.Whole.{Whole}

@@ -3,9 +3,9 @@ use mathlib.Core.Path.{_≡_, refl, sym, ap, _∙_}
 use mathlib.Core.List.{List, [], _∷_}
 use Prim.Native.Nat.{ℕ, zero, suc}
 use native.Mathlib.Omega.{arith}
-use Rattle.model.specs.Table.{Table, tableRefusal}
-use Rattle.model.specs.Port.{Port, fresh}
-use Rattle.model.specs.Report.{Report, Answer, Call}
+use Rattle.model.specs.Table.{tableRefusal}
+use Rattle.model.specs.Port.{Port}
+use Rattle.model.specs.Report.{Report, Call}
 use Rattle.model.specs.Run.{Entry, run}
 use Rattle.model.proofs.Theorems.{demand-three}
 use Rattle.table.specs.declared.Table.{Table as TableRecord}

@@ -5,8 +5,8 @@ use Prim.Native.Nat.{ℕ, zero, suc, _≤_}
 use native.Mathlib.Omega.{arith}
 use lib.ListN.{length, replicate, length-map}
 use Rattle.model.specs.Basics.{entries}
-use Rattle.model.specs.Table.{Table, blankTable, tableRefusal}
-use Rattle.model.specs.Port.{Account, Port, blankAccount, fullAccount, fresh}
+use Rattle.model.specs.Table.{blankTable, tableRefusal}
+use Rattle.model.specs.Port.{Account, blankAccount, fullAccount, fresh}
 use Rattle.table.specs.declared.Table.{Table as TableRecord}
 use Rattle.table.specs.View.{viewLinks, viewTable, recordTable}
 use Rattle.table.proofs.Shape.{count-shown}

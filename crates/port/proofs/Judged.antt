@@ -3,18 +3,18 @@ use mathlib.Core.Path.{_≡_, refl, sym, ap, _∙_}
 use mathlib.Core.Bool.{Bool, true, false, cond}
 use mathlib.Core.Option.{Option, none, some}
 use mathlib.Core.List.{List}
-use Prim.Native.Nat.{ℕ, _+_, _≤_, _<_}
+use Prim.Native.Nat.{ℕ, _<_}
 use native.Mathlib.Omega.{arith}
 use borrow.Author.Tests.{eqb-true}
 use lib.ListN.{length, getD}
 use lib.Seq.{drop-set-lt}
-use Rattle.model.specs.Units.{occupied, mostFrames}
+use Rattle.model.specs.Units.{occupied}
 use Rattle.model.specs.Link.{linkAt, placeOf}
 use Rattle.model.specs.Table.{Table, tableRefusal}
 use Rattle.model.specs.Machine.{queueOf, held}
 use Rattle.model.specs.Port.{withGate, withLineTick}
 use Rattle.model.specs.Fitness.{fit}
-use Rattle.model.specs.Report.{admits, admitted, judge, judgeReport, arrived}
+use Rattle.model.specs.Report.{admits, admitted, judge, judgeReport}
 use Rattle.model.proofs.Checks.{all-true}
 use Rattle.model.proofs.Stepping.{placed}
 use Rattle.model.proofs.Lined.{lined-count}

@@ -1,10 +1,9 @@
 -- The advance of a port record, and of the model's port.
 use mathlib.Core.Path.{_≡_, refl, sym, ap, _∙_}
 use mathlib.Core.List.{List}
-use Prim.Native.Nat.{ℕ, zero, suc, _≤_}
+use Prim.Native.Nat.{ℕ, zero, suc}
 use lib.ListN.{length}
 use Rattle.model.specs.Machine.{Scheduler, at, advance}
-use Rattle.model.specs.Port.{Gate, Port}
 use Rattle.model.specs.Report.{Report, wait, tickOf, reportRefusal, judgeReport, refusal, acceptedOr, step, Stepped}
 use Rattle.model.proofs.QueueSteps.{advance-clock}
 use Rattle.model.proofs.Stepping.{Timely, movedTo}

@@ -1,9 +1,10 @@
 -- The model's fitness of a port record, by the conditions that the code tests one after the other.
-use mathlib.Core.Path.{_≡_, refl, sym, ap, _∙_}
-use mathlib.Core.Bool.{Bool, true, false}
+use mathlib.Core.Path.{_≡_, sym, ap, _∙_}
+use mathlib.Core.Bool.{Bool, true, false, and-true}
 use mathlib.Core.List.{List, [], _∷_}
 use Prim.Native.Nat.{ℕ}
-use lib.Dec.{eqb, leb}
+use lib.Dec.{leb}
+use borrow.Author.Tests.{eq-eqb, eqb-true, ne-eqb}
 use lib.ListN.{length, getD}
 use Rattle.model.specs.Basics.{provided, allTo, allHold}
 use Rattle.model.specs.Units.{lastTick, mostFrames}
@@ -23,24 +24,31 @@ use Rattle.port_fitness.proofs.All.{same-truth, all-four, any-false}
 use Rattle.port_queue_fitness.specs.declared.Fitness.{Fitness}
 use Rattle.port_queue_fitness.specs.Queues.{queuesFit, fitnessIf, queuesFitness}
 use Rattle.port_record_fitness.specs.View.{viewParts}
-use Rattle.port_record_fitness.specs.Fitness.{portFitness}
+use Rattle.port_record_fitness.specs.Fitness.{tableFits, portFitness}
 
--- ten conditions are five: those on queues and sender are one, and those on accounts
+-- ten conditions are four: those on table and clock are one, those on queues and sender, and those on accounts
 grouped : (a b c d e f g h i j q : Bool) → q ≡ allHold (c ∷ d ∷ e ∷ f ∷ []) →
-    allHold (a ∷ b ∷ c ∷ d ∷ e ∷ f ∷ g ∷ h ∷ i ∷ j ∷ []) ≡ allHold (a ∷ b ∷ allHold (q ∷ j ∷ []) ∷ g ∷ allHold (h ∷ i ∷ []) ∷ [])
+    allHold (a ∷ b ∷ c ∷ d ∷ e ∷ f ∷ g ∷ h ∷ i ∷ j ∷ []) ≡ allHold (allHold (a ∷ b ∷ []) ∷ allHold (q ∷ j ∷ []) ∷ g ∷ allHold (h ∷ i ∷ []) ∷ [])
 grouped a b c d e f g h i j q x =
     same-truth _ _
     (λ (y : allHold (a ∷ b ∷ c ∷ d ∷ e ∷ f ∷ g ∷ h ∷ i ∷ j ∷ []) ≡ true).
     let all = all-true _ y in
     let four = true-all (c ∷ d ∷ e ∷ f ∷ []) (all .1 .1 .0, (all .1 .1 .1 .0, (all .1 .1 .1 .1 .0, (all .1 .1 .1 .1 .1 .0, tt)))) in
     let rest = all .1 .1 .1 .1 .1 .1 in
-    true-all _ (all .0, (all .1 .0, (true-all _ (x ∙ four, (rest .1 .1 .1 .0, tt)), (rest .0, (true-all _ (rest .1 .0, (rest .1 .1 .0, tt)), tt))))))
-    (λ (y : allHold (a ∷ b ∷ allHold (q ∷ j ∷ []) ∷ g ∷ allHold (h ∷ i ∷ []) ∷ []) ≡ true).
+    true-all _ (
+      true-all _ (all .0, (all .1 .0, tt)),
+      (true-all _ (x ∙ four, (rest .1 .1 .1 .0, tt)), (rest .0, (true-all _ (rest .1 .0, (rest .1 .1 .0, tt)), tt))),
+    ))
+    (λ (y : allHold (allHold (a ∷ b ∷ []) ∷ allHold (q ∷ j ∷ []) ∷ g ∷ allHold (h ∷ i ∷ []) ∷ []) ≡ true).
     let all = all-true _ y in
-    let queued = all-true (q ∷ j ∷ []) (all .1 .1 .0) in
+    let first = all-true (a ∷ b ∷ []) (all .0) in
+    let queued = all-true (q ∷ j ∷ []) (all .1 .0) in
     let four = all-true (c ∷ d ∷ e ∷ f ∷ []) (sym x ∙ queued .0) in
-    let two = all-true (h ∷ i ∷ []) (all .1 .1 .1 .1 .0) in
-    true-all _ (all .0, (all .1 .0, (four .0, (four .1 .0, (four .1 .1 .0, (four .1 .1 .1 .0, (all .1 .1 .1 .0, (two .0, (two .1 .0, (queued .1 .0, tt)))))))))))
+    let two = all-true (h ∷ i ∷ []) (all .1 .1 .1 .0) in
+    true-all _ (
+      first .0,
+      (first .1 .0, (four .0, (four .1 .0, (four .1 .1 .0, (four .1 .1 .1 .0, (all .1 .1 .0, (two .0, (two .1 .0, (queued .1 .0, tt))))))))),
+    ))
 
 queues-parts : (t : TableRecord) (clock : ℕ) (queues : List Queue) →
     queuesFit t clock queues
@@ -59,14 +67,27 @@ queues-parts t clock queues =
     (λ p. leb (getD (viewMarks queues) p 0) (getD (t .sizes) p 0))
     8
 
+-- ---- table and clock
+module _ (t : TableRecord) (clock : ℕ) where
+  pub table-unfit : (tableRefusal (viewTable t) ≡ 0 → ⊥) → false ≡ tableFits t clock
+  unfolding allHold
+  table-unfit h = rw (ne-eqb (tableRefusal (viewTable t)) 0 h)
+
+  pub table-fit : tableRefusal (viewTable t) ≡ 0 → leb clock lastTick ≡ tableFits t clock
+  unfolding allHold
+  table-fit h = rw (eq-eqb (tableRefusal (viewTable t)) 0 h, and-true)
+
+  pub table-passes : tableFits t clock ≡ true → tableRefusal (viewTable t) ≡ 0
+  table-passes e = eqb-true (tableRefusal (viewTable t)) 0 (all-true _ e .0)
+
+-- ---- the whole
 module _ (t : TableRecord) (clock : ℕ) (queues : List Queue) (sender : SenderRecord) (gate : GateRecord) where
   abbrev fits : Bool
   fits = fit (viewTable t) (viewParts t clock queues sender gate)
 
   abbrev conditions : List Bool
   conditions =
-      eqb (tableRefusal (viewTable t)) 0
-      ∷ leb clock lastTick
+      tableFits t clock
       ∷ allHold (queuesFit t clock queues ∷ senderFit clock (viewQueues queues) (viewSender sender) ∷ [])
       ∷ linesFit (gate .«line_ticks») (t .lines) clock
       ∷ allHold (ticksFit (gate .accounts) (t .count) clock ∷ creditsFit (gate .accounts) t ∷ [])
@@ -83,4 +104,4 @@ module _ (t : TableRecord) (clock : ℕ) (queues : List Queue) (sender : SenderR
 
   -- all hold, that on the queues as it was told
   pub is-fit : {q : Fitness} → q ≡ queuesFitness t clock queues sender → AllTrue conditions → q ≡ portFitness t clock queues sender gate
-  is-fit told all = told ∙ ap (λ (b : Bool). fitnessIf b (framesHeld (viewQueues queues))) (all .1 .1 .0 ∙ sym (fit-shown ∙ true-all conditions all))
+  is-fit told all = told ∙ ap (λ (b : Bool). fitnessIf b (framesHeld (viewQueues queues))) (all .1 .0 ∙ sym (fit-shown ∙ true-all conditions all))

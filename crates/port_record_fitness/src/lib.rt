@@ -5,16 +5,23 @@ use port_scheduler::Queue;
 use port_scheduler::Sender;
 use table::Table;
 ghost use mathlib.Core.Path.{_≡_};
-ghost use Rattle.port_record_fitness.specs.Fitness.{portFitness};
+ghost use Rattle.port_record_fitness.specs.Fitness.{tableFits, portFitness};
+
+// The table passes 3 to 6, and the clock is not past the last tick.
+fn table_fits(t: Table, clock: u64) -> bool
+    ensures { λ r. ⌜ r ≡ tableFits t clock ⌝ }
+{
+    if table::check(t) != 0 {
+        return false;
+    }
+    clock <= 281474976710655
+}
 
 // Whether the record of these parts is fit, condition by condition, and how many frames it holds, if it is.
 pub fn fit(t: Table, clock: u64, queues: [Queue; 8], sender: Sender, gate: Gate) -> Fitness
     ensures { λ r. ⌜ r ≡ portFitness t clock queues sender gate ⌝ }
 {
-    if table::check(t) != 0 {
-        return port_queue_fitness::unfit();
-    }
-    if 281474976710655 < clock {
+    if !table_fits(t, clock) {
         return port_queue_fitness::unfit();
     }
     let queued = port_queue_fitness::queues_fit(t, queues, sender, clock);

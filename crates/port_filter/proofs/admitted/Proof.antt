@@ -1,6 +1,6 @@
-use mathlib.Core.Path.{_≡_, sym, _∙_}
+use mathlib.Core.Path.{sym, _∙_}
 use native.Mathlib.Omega.{arith}
-use Prim.Native.Nat.{ℕ, _<_}
+use Prim.Native.Nat.{_<_}
 use lib.ListN.{getD}
 use Rattle.table_lookup.proofs.Tables.{searchable}
 use Rattle.port_filter.proofs.Filtering.{nowhere, in-array, let-through, kept-out}

@@ -1,4 +1,4 @@
-use mathlib.Core.Path.{_≡_, ap}
+use mathlib.Core.Path.{ap}
 use native.Mathlib.Omega.{arith}
 use Rattle.model.proofs.Entries.{getD-entries}
 use Rattle.port_refusals.specs.Reports.{viewReport}
@@ -29,13 +29,13 @@ returns-3 : tie.Need-returns-3
 returns-3 c =
     let a = c .before .before .before .before .before .before .args in
     let r = c .before .before .before .before .report .given in
-    too-short (a .lines) (a .t2) (r .0 .0) (r .0 .1 .0) (r .0 .1 .1 .0) (r .0 .1 .1 .1 .0) (ap viewReport (r .1)) (omega arith) (c .if2 .taken)
+    too-short (a .lines) (a .t2) (r .0 .0) (r .0 .1 .0) (r .0 .1 .1 .0) (r .0 .1 .1 .1 .0) (ap viewReport (r .1)) (omega arith) (omega arith)
 
 returns-4 : tie.Need-returns-4
 returns-4 c =
     let a = c .before .before .before .before .before .before .before .args in
     let r = c .before .before .before .before .before .report .given in
-    too-long (a .lines) (a .t2) (r .0 .0) (r .0 .1 .0) (r .0 .1 .1 .0) (r .0 .1 .1 .1 .0) (ap viewReport (r .1)) (omega arith) (c .before .if2 .left) (c .if3 .taken)
+    too-long (a .lines) (a .t2) (r .0 .0) (r .0 .1 .0) (r .0 .1 .1 .0) (r .0 .1 .1 .1 .0) (ap viewReport (r .1)) (omega arith) (omega arith) (omega arith)
 
 mul-if4 : tie.Need-mul-if4
 mul-if4 c = search needs
@@ -53,13 +53,13 @@ returns-5 : tie.Need-returns-5
 returns-5 c =
     let a = c .before .before .before .before .before .before .before .before .args in
     let r = c .before .before .before .before .before .before .report .given in
-    overlaps (a .lines) (a .t2) (r .0 .0) (r .0 .1 .0) (r .0 .1 .1 .0) (r .0 .1 .1 .1 .0) (ap viewReport (r .1)) (omega arith) (c .before .before .if2 .left) (c .before .if3 .left) (c .if4 .taken)
+    overlaps (a .lines) (a .t2) (r .0 .0) (r .0 .1 .0) (r .0 .1 .1 .0) (r .0 .1 .1 .1 .0) (ap viewReport (r .1)) (omega arith) (omega arith) (omega arith) (omega arith)
 
 returns-6 : tie.Need-returns-6
 returns-6 c =
     let a = c .before .before .before .before .before .before .before .before .args in
     let r = c .before .before .before .before .before .before .report .given in
-    in-order (a .lines) (a .t2) (r .0 .0) (r .0 .1 .0) (r .0 .1 .1 .0) (r .0 .1 .1 .1 .0) (ap viewReport (r .1)) (omega arith) (c .before .before .if2 .left) (c .before .if3 .left) (c .if4 .left)
+    in-order (a .lines) (a .t2) (r .0 .0) (r .0 .1 .0) (r .0 .1 .1 .0) (r .0 .1 .1 .1 .0) (ap viewReport (r .1)) (omega arith) (omega arith) (omega arith) (omega arith)
 
 pub frame-refusal-spec : {M : Type 1} → statement M
 frame-refusal-spec =

@@ -8,10 +8,10 @@ mul-if1 : tie.Need-mul-if1
 mul-if1 c = search needs
 
 returns : tie.Need-returns
-returns c = no-room (c .before .args .frames) (c .before .args .room) (c .if1 .taken)
+returns c = no-room (c .before .args .frames) (c .before .args .room) (omega arith)
 
 returns-2 : tie.Need-returns-2
-returns-2 c = roomy (c .before .args .frames) (c .before .args .room) (c .if1 .left)
+returns-2 c = roomy (c .before .args .frames) (c .before .args .room) (omega arith)
 
 pub room-refusal-spec : {M : Type 1} → statement M
 room-refusal-spec = tie.close (tie.spec mul-if1 returns returns-2)

@@ -1,4 +1,5 @@
 use mathlib.Core.Path.{_≡_, sym, ap, _∙_}
+use native.Mathlib.Omega.{arith}
 use borrow.Author.Tests.{not-true, not-false}
 use Rattle.model.specs.Link.{VirtualLink, bag}
 use Rattle.port.specs.Judging.{linkOf}
@@ -34,7 +35,10 @@ bag-requires : tie.Need-bag-requires
 bag-requires c κs = search needs
 
 charge-in-requires : tie.Need-charge-in-requires
-charge-in-requires c κs = let s = c .before .before .before .before in in-array (s .args .p) (whole (s .args .p) _ (s .good .0)) (s .args .i) (s .args .«length») (s .pre)
+charge-in-requires c κs =
+    let s = c .before .before .before .before in
+    let k = in-array (s .args .p) (whole (s .args .p) _ (s .good .0)) (s .args .i) (s .args .«length») (s .pre) in
+    omega arith
 
 returns : tie.Need-returns
 returns c =
