@@ -1,11 +1,11 @@
 -- What follows from a level: no frame stays as long as the hold, and what is held is at most the bound.
-use mathlib.Core.Path.{_≡_, refl, ap}
+use mathlib.Core.Path.{_≡_, refl}
 use mathlib.Core.Bool.{Bool, true, false, cond}
 use Prim.Native.Nat.{ℕ, suc, _+_, _-_, _≤_, _<_, min}
 use native.Mathlib.Nat.{le-refl, lt-of-not-le}
 use native.Mathlib.Decide.{decLe, ℕ-discrete}
 use native.Mathlib.Omega.{arith}
-use lib.Dec.{eqb, leb, ltb}
+use lib.Dec.{leb}
 use borrow.Author.Tests.{eqb-true, le-leb, lt-leb, lt-ltb}
 use Rattle.model.specs.Basics.{provided, greatestTo, Each}
 use Rattle.model.specs.Units.{occupied}

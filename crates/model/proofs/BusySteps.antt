@@ -1,5 +1,5 @@
 -- A tick, many ticks, an arrival: each keeps the scheduler sound and every level.
-use mathlib.Core.Path.{_≡_, refl, ap}
+use mathlib.Core.Path.{_≡_, refl}
 use mathlib.Core.Logic.{inl, inr}
 use mathlib.Core.Bool.{Bool, true, false}
 use mathlib.Core.Option.{Option, none, some}
@@ -10,11 +10,11 @@ use native.Mathlib.Decide.{ℕ-discrete}
 use native.Mathlib.Omega.{arith}
 use lib.Dec.{eqb, leb}
 use borrow.Author.Tests.{eqb-false}
-use lib.ListN.{length, getD, set, length-set, length-append, List·getD-append}
+use lib.ListN.{length, length-set, length-append, List·getD-append}
 use lib.Seq.{getD-set-same, getD-set-other}
 use Rattle.model.specs.Basics.{provided, Each}
 use Rattle.model.specs.Units.{occupied}
-use Rattle.model.specs.Machine.{Frame, Sender, idle, sending, Scheduler, at, blankFrame, queueOf, headOf, queuedLast, highestWaiting, startIfAny, started, freedIf, byteLeaves, tick, ticks, stored, bytes}
+use Rattle.model.specs.Machine.{Frame, Sender, idle, sending, Scheduler, at, blankFrame, queueOf, headOf, queuedLast, highestWaiting, startIfAny, started, freedIf, byteLeaves, tick, ticks, stored}
 use Rattle.model.proofs.Queues.{each-map, each-head, up, up-none, Waits, waiting-some, waiting-none}
 use Rattle.model.proofs.BusyPeriod.{Under, SendsInTime, Meets, Sound, part, Before, Level, pop-length, pop-each, put-each, put-each-up, put-bytes, put-up, over, sent}
 

@@ -1,5 +1,5 @@
 -- The examples whose holds are reached by climbing: i, j, and the sheet of table E.
-use mathlib.Core.Path.{_≡_, refl, ap, _∙_}
+use mathlib.Core.Path.{_≡_, refl, _∙_}
 use mathlib.Core.Bool.{false}
 use mathlib.Core.Option.{none, some}
 use mathlib.Core.List.{List, _++_, flatMap}

@@ -20,7 +20,7 @@ use Rattle.model.specs.Port.{fresh}
 use Rattle.model.specs.Fitness.{namesLink, framesFit, senderFit, fit}
 use Rattle.model.specs.Report.{tickOf, frameChecks, reportChecks, allChecks, reportRefusal, admits, admitted, replenished, charged, checkedIf, police, policeAt, hasRoom, storedIf, store, passedIf, judge, judgeReport, bytesFreed, acceptedOr, step}
 use Rattle.model.specs.Run.{run}
-use Rattle.model.specs.Examples.{Outcome, Example, gives-bound, gives-hold, lacks-bounds, gives-answers, gives-bags, gives-sheet, outcomes, Correct}
+use Rattle.model.specs.Examples.{Outcome, Example, gives-bound, gives-hold, lacks-bounds, gives-answers, gives-held, gives-fates, keeps, breaks, gives-bags, gives-sheet, outcomes, Correct}
 use Rattle.model.specs.Examples as example
 
 -- ---- the common theorem: an example whose test computes to true is correct
@@ -34,8 +34,8 @@ sameNumbers (a ∷ xs) (b ∷ ys) = eqb a b && sameNumbers xs ys
 abbrev pub numbersOf : Outcome → List ℕ
 numbersOf a = a .answer .refused ∷ a .answer .verdict ∷ a .answer .frames ∷ a .answer .bytes ∷ a .list
 
-abbrev outcomeOf : List ℕ → Outcome
-outcomeOf l = record { answer = record { refused = getD l 0 0; verdict = getD l 1 0; frames = getD l 2 0; bytes = getD l 3 0 }; list = drop 4 l }
+abbrev outcomeFrom : List ℕ → Outcome
+outcomeFrom l = record { answer = record { refused = getD l 0 0; verdict = getD l 1 0; frames = getD l 2 0; bytes = getD l 3 0 }; list = drop 4 l }
 
 unfoldable pub sameOutcome : Outcome → Outcome → Bool
 sameOutcome a b = sameNumbers (numbersOf a) (numbersOf b)
@@ -53,6 +53,11 @@ computes (lacks-bounds t n) = eqb (boundsRefusal t) n
 computes (gives-answers t calls expected) = sameOutcomes (outcomes t calls) expected
 computes (gives-bags bags) = sameNumbers (eight bagOf) bags
 computes (gives-sheet t printed) = sameNumbers (sheet (tableBytes t)) (text printed)
+-- the words of demand 3 are shown from the answers, in ClauseExamples
+computes (gives-held t calls p expected) = false
+computes (gives-fates t calls n expected) = false
+computes (keeps t calls i) = false
+computes (breaks t calls i) = false
 
 numbers-equal : (xs ys : List ℕ) → sameNumbers xs ys ≡ true → xs ≡ ys
 unfolding sameNumbers
@@ -67,7 +72,7 @@ numbers-equal (x ∷ xs) (y ∷ ys) e =
 
 outcome-equal : (a b : Outcome) → sameOutcome a b ≡ true → a ≡ b
 unfolding sameOutcome
-outcome-equal a b e = ap outcomeOf (numbers-equal (numbersOf a) (numbersOf b) e)
+outcome-equal a b e = ap outcomeFrom (numbers-equal (numbersOf a) (numbersOf b) e)
 
 outcomes-equal : (xs ys : List Outcome) → sameOutcomes xs ys ≡ true → xs ≡ ys
 unfolding sameOutcomes
@@ -90,6 +95,10 @@ settled (lacks-bounds t n) e = eqb-true (boundsRefusal t) n e
 settled (gives-answers t calls expected) e = outcomes-equal (outcomes t calls) expected e
 settled (gives-bags bags) e = numbers-equal (eight bagOf) bags e
 settled (gives-sheet t printed) e = numbers-equal (sheet (tableBytes t)) (text printed) e
+settled (gives-held t calls p expected) e = absurd (let z : _≡_ {A = ℕ} 0 1 = cc in omega arith)
+settled (gives-fates t calls n expected) e = absurd (let z : _≡_ {A = ℕ} 0 1 = cc in omega arith)
+settled (keeps t calls i) e = absurd (let z : _≡_ {A = ℕ} 0 1 = cc in omega arith)
+settled (breaks t calls i) e = absurd (let z : _≡_ {A = ℕ} 0 1 = cc in omega arith)
 
 -- names for all that an example computes with
 the-port : ℕ
@@ -147,6 +156,14 @@ s = settled example.s refl
 pub u : Correct example.u
 unfolding the-port
 u = settled example.u refl
+
+pub v : Correct example.v
+unfolding the-port
+v = settled example.v refl
+
+pub w : Correct example.w
+unfolding the-port
+w = settled example.w refl
 
 pub a : Correct example.a
 unfolding the-formulas

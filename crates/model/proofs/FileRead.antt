@@ -1,13 +1,12 @@
 -- Reading a table file: all its checks as one list, and the table that stands in it.
 use mathlib.Core.Path.{_≡_, refl, ap, _∙_}
-use mathlib.Core.Bool.{not}
 use mathlib.Core.Option.{Option, none, some}
 use mathlib.Core.List.{List, [], _∷_, _++_, append-assoc, append-nil}
 use Prim.Native.Nat.{ℕ, zero, suc, _≤_, _<_}
 use native.Mathlib.Omega.{arith}
 use lib.ListN.{length, drop}
 use lib.Seq.{append-snoc}
-use Rattle.model.specs.Basics.{Check, check, firstMet, firstRefusal}
+use Rattle.model.specs.Basics.{Check, firstMet, firstRefusal}
 use Rattle.model.specs.Link.{VirtualLink}
 use Rattle.model.specs.Table.{Table, blankTable, linkChecks, linksChecks, tableRefusal}
 use Rattle.model.specs.TableFile.{numberAt, headerChecks, linkRead, sizesRead, countRecordChecks, linkRecordChecks, sizesRecordChecks, Reading, stopOr, readSizes, readLinks, readTable}

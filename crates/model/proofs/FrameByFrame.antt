@@ -1,11 +1,10 @@
 -- k ticks in closed form: the laws by which an advance frame by frame equals the tick machine.
-use mathlib.Core.Path.{_≡_, ap}
+use mathlib.Core.Path.{_≡_}
 use mathlib.Core.Option.{none, some}
 use mathlib.Core.List.{List, [], _∷_, _++_, append-assoc}
 use Prim.Native.Nat.{ℕ, zero, suc, _+_, _-_, _≤_, _<_}
 use native.Mathlib.Nat.{add-zero}
 use native.Mathlib.Omega.{arith}
-use lib.Dec.{eqb}
 use borrow.Author.Tests.{eq-eqb, ne-eqb}
 use Rattle.model.specs.Machine.{Frame, Sender, idle, sending, Departure, Advance, at, advanced, headOf, withoutHead, highestWaiting, startIfAny, started, departure, freedIf, byteLeaves, tick, preceded, ticks, advance}
 

@@ -8,9 +8,9 @@ use Prim.Native.Nat.{ℕ, zero, suc, _+_, _-_, _≤_, _<_}
 use native.Mathlib.Nat.{le-refl, le-trans}
 use native.Mathlib.Decide.{ℕ-discrete}
 use native.Mathlib.Omega.{arith}
-use lib.Dec.{eqb, leb, lit≤}
+use lib.Dec.{eqb, lit≤}
 use borrow.Author.Tests.{eq-eqb, le-leb}
-use lib.ListN.{length, getD, set, length-set, replicate}
+use lib.ListN.{length, getD, length-set, replicate}
 use lib.Seq.{getD-set-same, getD-set-other}
 use Rattle.model.specs.Basics.{provided, done}
 use Rattle.model.specs.Units.{lastTick, occupied}

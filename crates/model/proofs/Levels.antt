@@ -1,5 +1,5 @@
 -- All eight levels of a port whose table has bounds: kept by an advance and by a frame that passed, stored or not.
-use mathlib.Core.Path.{_≡_, refl}
+use mathlib.Core.Path.{_≡_}
 use mathlib.Core.List.{List, _∷_}
 use Prim.Native.Nat.{ℕ, _-_, _≤_, _<_}
 use native.Mathlib.Nat.{le-refl}

@@ -1,23 +1,29 @@
 -- Nobody needs to read below here: the theorems are stated in specs/Promises.antt and specs/Examples.antt, and named in Theorems.
+
+-- ---- lists, entries before a count, bytes, checks
 pub mod Lists
 pub mod Entries
 pub mod Bytes
 pub mod Checks
+-- ---- tables that pass, table files
 pub mod TableFacts
+pub mod ValidTable
 pub mod FileRead
 pub mod FileWrite
 pub mod ReadBack
+-- ---- searches, arrival curves, holds and bounds
 pub mod Search
 pub mod Curves
 pub mod Holds
 pub mod BoundFacts
+-- ---- the gate: what passes it is within the arrival curve; links that keep BAG and jitter
 pub mod Passed
 pub mod TokenBucket
 pub mod Serialization
 pub mod Grouping
 pub mod Gate
 pub mod Keeping
-pub mod ValidTable
+-- ---- the tick machine: queues, busy periods and the backlog in them, departures
 pub mod Queues
 pub mod BusyPeriod
 pub mod BusySteps
@@ -27,6 +33,7 @@ pub mod FramesFreed
 pub mod QueueSteps
 pub mod Ledger
 pub mod Departures
+-- ---- reports: refusals, cases of a step, the log, what every list of reports keeps, fitness
 pub mod Refusals
 pub mod Stepping
 pub mod Lined
@@ -34,9 +41,12 @@ pub mod Log
 pub mod Invariant
 pub mod Fitness
 pub mod FitKept
+-- ---- demand 3, and what the next switch on the way may count on
 pub mod Levels
 pub mod Demand
 pub mod Later
+-- ---- the examples, and all theorems under their names
 pub mod Examples
+pub mod ClauseExamples
 pub mod ClimbedExamples
 pub mod Theorems

@@ -1,5 +1,5 @@
 -- The theorems of specs/Promises.antt and specs/Examples.antt, each under its name.
-use Rattle.model.specs.Basics.{done, also}
+use Rattle.model.specs.Basics.{also}
 use Rattle.model.specs.Promises.{ReadsWritten, WritesRead, FileLength, DemandThree, NeverUnfit, FitnessKept, LengthsKept, CurveGrows, HoldIsSmallest, BoundIsGreatest, NoneAppears, DeparturesInTime, DeparturesSpaced, PassedKeep}
 use Rattle.model.specs.Examples.{ExamplesCorrect}
 use Rattle.model.proofs.ReadBack as ReadBack
@@ -12,6 +12,7 @@ use Rattle.model.proofs.FitKept as FitKept
 use Rattle.model.proofs.Demand as Demand
 use Rattle.model.proofs.Later as Later
 use Rattle.model.proofs.Examples as shown
+use Rattle.model.proofs.ClauseExamples as told
 use Rattle.model.proofs.ClimbedExamples as climbed
 
 pub reads-written : ReadsWritten
@@ -59,4 +60,5 @@ passed-keep = Later.passed-keep
 pub examples-correct : ExamplesCorrect
 examples-correct =
     also shown.a (also shown.b (also shown.c (also shown.d (also shown.e (also shown.f (also shown.g (also shown.h (also climbed.i (also climbed.j (also shown.k (also shown.l
-    (also shown.m (also shown.n (also shown.o (also shown.p (also shown.q (also shown.r (also shown.s (also shown.t (also shown.u (also climbed.sheetE done)))))))))))))))))))))
+    (also shown.m (also shown.n (also shown.o (also shown.p (also shown.q (also shown.r (also shown.s (also shown.t (also shown.u (also shown.v (also shown.w
+    (also climbed.sheetE told.words-correct)))))))))))))))))))))))

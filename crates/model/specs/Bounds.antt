@@ -62,7 +62,7 @@ unfoldable pub orZero : Option ℕ → ℕ
 orZero none = 0
 orZero (some w) = w
 
--- "bounds: 3 to 6, then no hold (8)": "If any of the eight has none, the table has no bounds"
+-- 8: "bounds: 3 to 6, then no hold"; "If any of the eight has none, the table has no bounds (8)"
 unfoldable pub boundsRefusal : Table → ℕ
 boundsRefusal t = firstMet (tableChecks t ++ (check 8 (not (allTo (λ p. isThere (holdOf t p)) 8)) ∷ []))
 

@@ -1,22 +1,36 @@
--- The ten marked examples of the paper, a to j, and ours, k to u, as one list.
+-- The ten marked examples of the paper, a to j, and ours, k to w, and the words of demand 3 on them, as one list.
 use mathlib.Core.Path.{_≡_}
 use mathlib.Core.List.{List, [], _∷_, _++_, map, reverse}
 use Prim.Native.Nat.{ℕ, zero, suc, _+_, _-_}
 use Prim.Native.String.{String}
 use lib.ListN.{length, replicate}
 use Rattle.model.specs.Basics.{eight, Each}
-use Rattle.model.specs.Link.{VirtualLink, bagOf}
+use Rattle.model.specs.Link.{VirtualLink, bagOf, linkAt}
 use Rattle.model.specs.Table.{Table}
 use Rattle.model.specs.TableFile.{tableBytes}
 use Rattle.model.specs.Bounds.{boundsRefusal, hold, bound}
-use Rattle.model.specs.Report.{Report, wait, frame, Answer, Call}
+use Rattle.model.specs.Machine.{Frame}
+use Rattle.model.specs.Report.{Report, wait, frame, Answer, Call, arrived}
 use Rattle.model.specs.Sheet.{text, sheet}
-use Rattle.model.specs.Run.{Entry, run}
+use Rattle.model.specs.Run.{Entry, run, storedBy, policedBy, droppedBy, passedBy, throughBy, heldOf, mostHeld, ticksOf, LinkKeeps}
 
 -- the answer of a call, and the list as it left it
 pub record Outcome : Type 0 where
   pub answer : Answer
   pub list : List ℕ
+
+-- after a report: the held frames of a priority, and the most that its buffer has held
+pub record Holding : Type 0 where
+  pub frames : List Frame
+  pub most : ℕ
+
+-- the ticks of a link's frames that are stored, policed and dropped, that passed the police check, that the filter let through
+pub record Fates : Type 0 where
+  pub stored : List ℕ
+  pub policed : List ℕ
+  pub dropped : List ℕ
+  pub passed : List ℕ
+  pub through : List ℕ
 
 pub data Example : Type 0 where
   -- a table with its bound and hold of a priority; or its hold alone
@@ -26,19 +40,50 @@ pub data Example : Type 0 where
   lacks-bounds : Table → ℕ → Example
   -- a table and calls in order, with what comes of each
   gives-answers : Table → List Call → List Outcome → Example
+  -- of a table and calls in order: what a priority's buffer holds after each; what becomes of a number's frames
+  gives-held : Table → List Call → ℕ → List Holding → Example
+  gives-fates : Table → List Call → ℕ → Fates → Example
+  -- of a table and calls in order: the link at a place keeps BAG and jitter, or does not
+  keeps : Table → List Call → ℕ → Example
+  breaks : Table → List Call → ℕ → Example
   -- the BAG of codes 0 to 7
   gives-bags : List ℕ → Example
   -- a table with its printed sheet
   gives-sheet : Table → String → Example
 
+-- the log of calls in order, the latest first
+abbrev pub logOf : Table → List Call → List Entry
+logOf t calls = run t (reverse calls) .log
+
+abbrev pub outcomeOf : Entry → Outcome
+outcomeOf e = record { answer = e .answer; list = e .list }
+
 unfoldable pub outcomes : Table → List Call → List Outcome
-outcomes t calls = reverse (map (λ (e : Entry). record { answer = e .answer; list = e .list }) (run t (reverse calls) .log))
+outcomes t calls = reverse (map outcomeOf (logOf t calls))
+
+unfoldable pub holdings : Table → ℕ → List Entry → List Holding
+holdings t p [] = []
+holdings t p (e ∷ log) = holdings t p log ++ (record { frames = heldOf t p (e ∷ log); most = mostHeld t p (e ∷ log) } ∷ [])
+
+abbrev pub fates : ℕ → List Entry → Fates
+fates n log =
+    record {
+      stored = ticksOf storedBy n log;
+      policed = ticksOf policedBy n log;
+      dropped = ticksOf droppedBy n log;
+      passed = ticksOf passedBy n log;
+      through = ticksOf throughBy n log;
+    }
 
 unfoldable pub Correct : Example → Type 0
 Correct (gives-bound t p b h) = (hold t p ≡ h) × (bound t p ≡ b)
 Correct (gives-hold t p h) = hold t p ≡ h
 Correct (lacks-bounds t n) = boundsRefusal t ≡ n
 Correct (gives-answers t calls expected) = outcomes t calls ≡ expected
+Correct (gives-held t calls p expected) = holdings t p (logOf t calls) ≡ expected
+Correct (gives-fates t calls n expected) = fates n (logOf t calls) ≡ expected
+Correct (keeps t calls i) = LinkKeeps (linkAt (t .links) i) (logOf t calls)
+Correct (breaks t calls i) = LinkKeeps (linkAt (t .links) i) (logOf t calls) → ⊥
 Correct (gives-bags bags) = eight bagOf ≡ bags
 Correct (gives-sheet t printed) = sheet (tableBytes t) ≡ text printed
 
@@ -78,20 +123,29 @@ c =
     (gives 0 0 0 [] ∷ gives 0 0 0 [] ∷ gives 0 1 1_000 (2 ∷ 1_000 ∷ 2_000 ∷ []) ∷ gives 0 1 500 (1 ∷ 500 ∷ 2_500 ∷ []) ∷ [])
 
 -- "d. Both at 1,000: link 2 is freed at 2,500, link 1 at 1,500"
+abbrev pub callsD : List Call
+callsD = lent (frame 1_000 1 2 1_000) ∷ lent (frame 1_000 0 1 500) ∷ lent (wait 1_500) ∷ lent (wait 2_500) ∷ []
+
 abbrev pub d : Example
 d =
-    gives-answers tableE (lent (frame 1_000 1 2 1_000) ∷ lent (frame 1_000 0 1 500) ∷ lent (wait 1_500) ∷ lent (wait 2_500) ∷ [])
+    gives-answers tableE callsD
     (gives 0 0 0 [] ∷ gives 0 0 0 [] ∷ gives 0 1 500 (1 ∷ 500 ∷ 1_500 ∷ []) ∷ gives 0 1 1_000 (2 ∷ 1_000 ∷ 2_500 ∷ []) ∷ [])
 
 -- "e, f. E: link 1 stored at 1,001; its next at 13,500 is policed, at 13,501 instead it passes"
+abbrev pub callsE : List Call
+callsE = lent (frame 1_001 0 1 500) ∷ lent (frame 13_500 0 1 500) ∷ []
+
 abbrev pub e : Example
 e =
-    gives-answers tableE (lent (frame 1_001 0 1 500) ∷ lent (frame 13_500 0 1 500) ∷ [])
+    gives-answers tableE callsE
     (gives 0 0 0 [] ∷ gives 2 1 500 (1 ∷ 500 ∷ 1_501 ∷ []) ∷ [])
+
+abbrev pub callsF : List Call
+callsF = lent (frame 1_001 0 1 500) ∷ lent (frame 13_501 0 1 500) ∷ []
 
 abbrev pub f : Example
 f =
-    gives-answers tableE (lent (frame 1_001 0 1 500) ∷ lent (frame 13_501 0 1 500) ∷ [])
+    gives-answers tableE callsF
     (gives 0 0 0 [] ∷ gives 0 1 500 (1 ∷ 500 ∷ 1_501 ∷ []) ∷ [])
 
 -- "g. Three links of 200, priority 0, one line: bound 399, hold 600. h. On three lines: bound 600"
@@ -147,15 +201,20 @@ l =
     1 1_199 2_600
 
 -- m. size 500: the third of three frames of 200 is dropped while the first is leaving. n. Its link, charged for it, is then policed
+abbrev pub tableN : Table
+tableN = threeLines (500 ∷ [])
+
 abbrev pub m : Example
 m =
-    gives-answers (threeLines (500 ∷ [])) (lent (frame 1_000 0 0 200) ∷ lent (frame 1_100 1 1 200) ∷ lent (frame 1_150 2 2 200) ∷ [])
+    gives-answers tableN (lent (frame 1_000 0 0 200) ∷ lent (frame 1_100 1 1 200) ∷ lent (frame 1_150 2 2 200) ∷ [])
     (gives 0 0 0 [] ∷ gives 0 0 0 [] ∷ gives 3 0 0 [] ∷ [])
+
+abbrev pub callsN : List Call
+callsN = lent (frame 1_000 0 0 200) ∷ lent (frame 1_100 1 1 200) ∷ lent (frame 1_150 2 2 200) ∷ lent (frame 2_000 2 2 200) ∷ []
 
 abbrev pub n : Example
 n =
-    gives-answers (threeLines (500 ∷ []))
-    (lent (frame 1_000 0 0 200) ∷ lent (frame 1_100 1 1 200) ∷ lent (frame 1_150 2 2 200) ∷ lent (frame 2_000 2 2 200) ∷ [])
+    gives-answers tableN callsN
     (gives 0 0 0 [] ∷ gives 0 0 0 [] ∷ gives 3 0 0 [] ∷ gives 2 2 400 (0 ∷ 200 ∷ 1_200 ∷ 1 ∷ 200 ∷ 1_400 ∷ []) ∷ [])
 
 -- o. link 1 stored at 1,001, policed at 13,500 and not charged for it, so stored at 14,000
@@ -165,23 +224,33 @@ o =
     (gives 0 0 0 [] ∷ gives 2 1 500 (1 ∷ 500 ∷ 1_501 ∷ []) ∷ gives 0 0 0 [] ∷ [])
 
 -- p. a filtered frame of 500 on line 0 at 1,000 takes its line until then: link 1 with 500 at 1,499 is refused
+abbrev pub callsP : List Call
+callsP = lent (frame 1_000 0 9 500) ∷ lent (frame 1_499 0 1 500) ∷ []
+
 abbrev pub p : Example
 p =
-    gives-answers tableE (lent (frame 1_000 0 9 500) ∷ lent (frame 1_499 0 1 500) ∷ [])
+    gives-answers tableE callsP
     (gives 1 0 0 [] ∷ refuses 15 ∷ [])
 
 -- q. a frame below its link's least, one above its greatest, one on another line, one of an unknown number
+abbrev pub tableQ : Table
+tableQ = tableOf 2 (record { number = 1; line = 0; priority = 0; code = 0; least = 100; greatest = 500; jitter = 0 } ∷ []) (2_000 ∷ [])
+
+abbrev pub callsQ : List Call
+callsQ = lent (frame 1_000 0 1 99) ∷ lent (frame 2_000 0 1 501) ∷ lent (frame 3_000 1 1 200) ∷ lent (frame 4_000 0 9 200) ∷ lent (frame 5_000 0 1 100) ∷ []
+
 abbrev pub q : Example
 q =
-    gives-answers
-    (tableOf 2 (record { number = 1; line = 0; priority = 0; code = 0; least = 100; greatest = 500; jitter = 0 } ∷ []) (2_000 ∷ []))
-    (lent (frame 1_000 0 1 99) ∷ lent (frame 2_000 0 1 501) ∷ lent (frame 3_000 1 1 200) ∷ lent (frame 4_000 0 9 200) ∷ lent (frame 5_000 0 1 100) ∷ [])
+    gives-answers tableQ callsQ
     (gives 1 0 0 [] ∷ gives 1 0 0 [] ∷ gives 1 0 0 [] ∷ gives 1 0 0 [] ∷ gives 0 0 0 [] ∷ [])
 
 -- r. example d, then a wait at 3,000: 2 frames, 1,500 bytes
+abbrev pub callsR : List Call
+callsR = lent (frame 1_000 1 2 1_000) ∷ lent (frame 1_000 0 1 500) ∷ lent (wait 3_000) ∷ []
+
 abbrev pub r : Example
 r =
-    gives-answers tableE (lent (frame 1_000 1 2 1_000) ∷ lent (frame 1_000 0 1 500) ∷ lent (wait 3_000) ∷ [])
+    gives-answers tableE callsR
     (gives 0 0 0 [] ∷ gives 0 0 0 [] ∷ gives 0 2 1_500 (1 ∷ 500 ∷ 1_500 ∷ 2 ∷ 1_000 ∷ 2_500 ∷ []) ∷ [])
 
 -- s. a report that meets 13, 14 and 15, and one that meets 15 and 16
@@ -202,6 +271,94 @@ u =
     (lent (frame 1_000 1 2 500) ∷ lent (frame 1_000 2 3 500) ∷ lent (frame 1_500 0 1 500) ∷ lent (wait 3_000) ∷ [])
     (gives 0 0 0 [] ∷ gives 0 0 0 [] ∷ gives 0 1 500 (2 ∷ 500 ∷ 1_500 ∷ []) ∷ gives 0 2 1_000 (1 ∷ 500 ∷ 2_000 ∷ 3 ∷ 500 ∷ 2_500 ∷ []) ∷ [])
 
+-- v. a link with jitter 12,416, which is B less 84: a frame of 500 at 1,000, and one of 84 at 1,084, while the first is leaving
+abbrev pub tableV : Table
+tableV = tableOf 1 (record { number = 1; line = 0; priority = 0; code = 0; least = 84; greatest = 500; jitter = 12_416 } ∷ []) (2_000 ∷ [])
+
+abbrev pub callsV : List Call
+callsV = lent (frame 1_000 0 1 500) ∷ lent (frame 1_084 0 1 84) ∷ lent (wait 1_500) ∷ []
+
+abbrev pub v : Example
+v = gives-answers tableV callsV (gives 0 0 0 [] ∷ gives 0 0 0 [] ∷ gives 0 1 500 (1 ∷ 500 ∷ 1_500 ∷ []) ∷ [])
+
+-- w. a third frame at 1,168 instead of the wait is policed
+abbrev pub callsW : List Call
+callsW = lent (frame 1_000 0 1 500) ∷ lent (frame 1_084 0 1 84) ∷ lent (frame 1_168 0 1 84) ∷ []
+
+abbrev pub w : Example
+w = gives-answers tableV callsW (gives 0 0 0 [] ∷ gives 0 0 0 [] ∷ gives 2 0 0 [] ∷ [])
+
+-- ---- the words of demand 3, on lists of calls above
+abbrev pub holds : List Frame → ℕ → Holding
+holds frames most = record { frames = frames; most = most }
+
+-- d and r: what each buffer holds, and has held
+abbrev pub heldD0 : Example
+heldD0 = gives-held tableE callsD 0 (holds [] 0 ∷ holds (arrived 1 500 1_000 ∷ []) 500 ∷ holds [] 500 ∷ holds [] 500 ∷ [])
+
+abbrev pub heldD1 : Example
+heldD1 =
+    gives-held tableE callsD 1
+    (holds (arrived 2 1_000 1_000 ∷ []) 1_000 ∷ holds (arrived 2 1_000 1_000 ∷ []) 1_000 ∷ holds (arrived 2 1_000 1_000 ∷ []) 1_000 ∷ holds [] 1_000 ∷ [])
+
+-- r: both leave with one report
+abbrev pub heldR1 : Example
+heldR1 = gives-held tableE callsR 1 (holds (arrived 2 1_000 1_000 ∷ []) 1_000 ∷ holds (arrived 2 1_000 1_000 ∷ []) 1_000 ∷ holds [] 1_000 ∷ [])
+
+-- n: the dropped frame is not held
+abbrev pub heldN0 : Example
+heldN0 =
+    gives-held tableN callsN 0
+    (holds (arrived 0 200 1_000 ∷ []) 200
+    ∷ holds (arrived 0 200 1_000 ∷ arrived 1 200 1_100 ∷ []) 400
+    ∷ holds (arrived 0 200 1_000 ∷ arrived 1 200 1_100 ∷ []) 400
+    ∷ holds [] 400
+    ∷ [])
+
+-- v: of two frames of a link the older leaves
+abbrev pub heldV0 : Example
+heldV0 =
+    gives-held tableV callsV 0
+    (holds (arrived 1 500 1_000 ∷ []) 500 ∷ holds (arrived 1 500 1_000 ∷ arrived 1 84 1_084 ∷ []) 584 ∷ holds (arrived 1 84 1_084 ∷ []) 584 ∷ [])
+
+-- e: link 1's second frame is policed. f: it passes
+abbrev pub fatesE : Example
+fatesE = gives-fates tableE callsE 1 (record { stored = 1_001 ∷ []; policed = 13_500 ∷ []; dropped = []; passed = 1_001 ∷ []; through = 1_001 ∷ 13_500 ∷ [] })
+
+abbrev pub fatesF : Example
+fatesF = gives-fates tableE callsF 1 (record { stored = 1_001 ∷ 13_501 ∷ []; policed = []; dropped = []; passed = 1_001 ∷ 13_501 ∷ []; through = 1_001 ∷ 13_501 ∷ [] })
+
+-- n: link 2's first frame is dropped, so it passed; its second is policed
+abbrev pub fatesN : Example
+fatesN = gives-fates tableN callsN 2 (record { stored = []; policed = 2_000 ∷ []; dropped = 1_150 ∷ []; passed = 1_150 ∷ []; through = 1_150 ∷ 2_000 ∷ [] })
+
+-- p: link 1's frame is refused. q: three are filtered, the fourth is stored
+abbrev pub fatesP : Example
+fatesP = gives-fates tableE callsP 1 (record { stored = []; policed = []; dropped = []; passed = []; through = [] })
+
+abbrev pub fatesQ : Example
+fatesQ = gives-fates tableQ callsQ 1 (record { stored = 5_000 ∷ []; policed = []; dropped = []; passed = 5_000 ∷ []; through = 5_000 ∷ [] })
+
+-- v, w: the first two frames are B − J apart, the third and the first are not 2 × B − J
+abbrev pub fatesV : Example
+fatesV = gives-fates tableV callsV 1 (record { stored = 1_000 ∷ 1_084 ∷ []; policed = []; dropped = []; passed = 1_000 ∷ 1_084 ∷ []; through = 1_000 ∷ 1_084 ∷ [] })
+
+abbrev pub fatesW : Example
+fatesW = gives-fates tableV callsW 1 (record { stored = 1_000 ∷ 1_084 ∷ []; policed = 1_168 ∷ []; dropped = []; passed = 1_000 ∷ 1_084 ∷ []; through = 1_000 ∷ 1_084 ∷ 1_168 ∷ [] })
+
+-- so in f and v the link keeps BAG and jitter, in e and w it does not
+abbrev pub keepsF : Example
+keepsF = keeps tableE callsF 0
+
+abbrev pub keepsV : Example
+keepsV = keeps tableV callsV 0
+
+abbrev pub breaksE : Example
+breaksE = breaks tableE callsE 0
+
+abbrev pub breaksW : Example
+breaksW = breaks tableV callsW 0
+
 -- the sheet that the paper prints for table E
 abbrev pub printedE : String
 printedE =
@@ -210,8 +367,13 @@ printedE =
 abbrev pub sheetE : Example
 sheetE = gives-sheet tableE printedE
 
+abbrev pub words : List Example
+words =
+    heldD0 ∷ heldD1 ∷ heldR1 ∷ heldN0 ∷ heldV0 ∷ fatesE ∷ fatesF ∷ fatesN ∷ fatesP ∷ fatesQ ∷ fatesV ∷ fatesW ∷ keepsF ∷ keepsV ∷ breaksE ∷ breaksW ∷ []
+
 abbrev pub examples : List Example
-examples = a ∷ b ∷ c ∷ d ∷ e ∷ f ∷ g ∷ h ∷ i ∷ j ∷ k ∷ l ∷ m ∷ n ∷ o ∷ p ∷ q ∷ r ∷ s ∷ t ∷ u ∷ sheetE ∷ []
+examples =
+    a ∷ b ∷ c ∷ d ∷ e ∷ f ∷ g ∷ h ∷ i ∷ j ∷ k ∷ l ∷ m ∷ n ∷ o ∷ p ∷ q ∷ r ∷ s ∷ t ∷ u ∷ v ∷ w ∷ sheetE ∷ words
 
 abbrev pub ExamplesCorrect : Type 0
 ExamplesCorrect = Each Correct examples

@@ -1,6 +1,6 @@
 -- The theorems, each as a statement. proofs/Theorems.antt proves each under the same name in lower case.
 use mathlib.Core.Path.{_≡_}
-use mathlib.Core.Bool.{Bool, true, false, cond, not}
+use mathlib.Core.Bool.{Bool, true, false, cond}
 use mathlib.Core.Option.{Option, none, some}
 use mathlib.Core.List.{List, [], _∷_, _++_}
 use Prim.Native.Nat.{ℕ, _+_, _-_, _≤_, _<_}
@@ -17,7 +17,7 @@ use Rattle.model.specs.Fitness.{fit}
 use Rattle.model.specs.Report.{Call, step}
 use Rattle.model.specs.Run.{Entry, run, passedBy, departuresBy, without, heldFrames, hasPriority, ticksOf, KeepBagAndJitter, Always, Demand3}
 
--- "The table file reads and writes by the layout, each undoing the other"
+-- Demand 2: "The table file reads and writes by the layout, each undoing the other"
 abbrev pub ReadsWritten : Type 0
 ReadsWritten = (t : Table) → tableRefusal t ≡ 0 → readTable (tableBytes t) ≡ record { refused = 0; table = t }
 

@@ -25,7 +25,7 @@ pub record History : Type 0 where
   pub port : Port
   pub log : List Entry
 
--- a list of calls, the latest first, from a fresh port: "each report given the port that the one before handed back"
+-- a list of calls, the latest first, from a fresh port; in demand 3's words "each report given the port that the one before handed back"
 unfoldable pub run : Table → List Call → History
 run t [] = record { port = fresh t; log = [] }
 run t (c ∷ calls) =
@@ -130,11 +130,12 @@ pub data Always (P : Entry → List Entry → Type 0) : List Entry → Type 0 wh
   start : Always P []
   then : {e : Entry} {log : List Entry} → P e log → Always P log → Always P (e ∷ log)
 
--- ---- demand 3, of a history h on table t
+-- ---- demand 3, of a history h on table t; the words in quotes are the demand's. The log is the latest first, and a frame that the filter
+-- lets through has a link of the table, so the clauses on priorities and links leave none out
 pub record Demand3 (t : Table) (h : History) : Type 0 where
   -- "each priority's queue is its held frames, oldest first"
   pub queue : (p : ℕ) → p < 8 → queueOf (h .port .scheduler .queues) p ≡ heldOf t p (h .log)
-  -- "each buffer holds, and has held, at most its bound"
+  -- "each buffer holds, and has held, at most its bound": mostHeld has what it holds now among the sums
   pub within : (p : ℕ) → p < 8 → mostHeld t p (h .log) ≤ bound t p
   -- "and its mark is the most it has held"
   pub mark : (p : ℕ) → p < 8 → markOf (h .port) p ≡ mostHeld t p (h .log)

@@ -16,7 +16,7 @@ unfoldable pub text : String → List ℕ
 text ended = []
 text (c then s) = code c ∷ text s
 
--- "Numerals here are base ten": the digits of n, the highest first, of which there are fewer than k
+-- "Numerals here are base ten": the digits of n, of which there are at most k, the highest first
 unfoldable pub digits : ℕ → ℕ → List ℕ
 digits zero n = []
 digits (suc k) n =

@@ -56,7 +56,7 @@ tableBytes t =
 
 -- ---- reading
 
--- "each record: fewer than 4 bytes remain (1)"; "then kind or length not the one due (2)"; "then body past the end of the file (1)"
+-- 1: "each record: fewer than 4 bytes remain"; 2: "then kind or length not the one due"; 1: "then body past the end of the file"
 unfoldable pub headerChecks : ℕ → ℕ → List ℕ → List Check
 headerChecks kind len rest =
     check 1 (ltb (length rest) 4)
@@ -136,6 +136,6 @@ unfoldable pub wroteOr : ℕ → Table → List ℕ → Writing
 wroteOr zero t output = record { refused = 0; written = fileLength t; output = tableBytes t ++ drop (fileLength t) output }
 wroteOr (suc n) t output = record { refused = suc n; written = 0; output = output }
 
--- "writer: 3 to 6, then output below 44 + 18 × n (9)"; "bytes after them stay"; "a refusal .. writes to no lent buffer"
+-- 9: "writer: 3 to 6, then output below 44 + 18 × n"; "bytes after them stay"; "A refusal .. writes to no lent buffer"
 unfoldable pub writeTable : Table → List ℕ → Writing
 writeTable t output = wroteOr (firstMet (tableChecks t ++ (check 9 (ltb (length output) (fileLength t)) ∷ []))) t output
