@@ -4,63 +4,23 @@ use mathlib.Core.Logic.{_≢_}
 use mathlib.Core.Bool.{true}
 use mathlib.Core.Option.{some}
 use mathlib.Core.List.{List}
-use Prim.Native.Nat.{ℕ, zero, suc, _+_, _≤_, _<_}
+use Prim.Native.Nat.{ℕ, zero, suc, _+_, _<_}
 use native.Mathlib.Decide.{ℕ-discrete}
 use native.Mathlib.Omega.{arith}
 use lib.ListN.{length, getD, set, length-set, replicate, length-replicate}
 use lib.Seq.{ext-getD, getD-set-same, getD-set-other}
-use mir.Val.{Val}
-use denote.Laws.{Is}
-use denote.Struct.Declared.{row}
 use Rattle.model.specs.Basics.{firstRefusal, eight}
-use Rattle.model.specs.Link.{linkAt}
 use Rattle.model.specs.Table.{Table, tableChecks, tableRefusal}
 use Rattle.model.specs.Bounds.{holdOf, boundWithin, isThere, orZero, boundsRefusal, hold, bound, sizedOr, sizing}
 use Rattle.model.proofs.Checks.{first-append}
 use Rattle.model.proofs.Lists.{getD-eight}
 use Rattle.model.proofs.TableFacts.{table-numbered}
-use Rattle.model.proofs.ValidTable.{valid}
 use Rattle.model.proofs.Holds.{no-hold, all-holds}
-use Rattle.table.specs.declared.Table.{Table as TableRecord}
-use Rattle.table.specs.View.{viewLink, recordLink, blankFields, viewLinks, viewTable}
-use Rattle.table.proofs.Shape.{sized, count-shown, link-shown}
-use Rattle.table.proofs.Table.{the-type}
-use Rattle.bounds_arrivals.specs.Fit.{FitLink, Fit}
 use Rattle.bounds.specs.declared.Bounds.{Bounds}
 use Rattle.bounds.specs.declared.limits.Limits.{Limits}
 use Rattle.bounds.specs.Limits.{found, Limited}
 use Rattle.bounds.specs.Answer.{recordBounds}
 use Rattle.bounds.proofs.Climbing.{found-some}
-
--- ---- a table that meets no check
-module _ (t : TableRecord) (vs : List Val) (good : Is (row the-type) t vs) (e : tableRefusal (viewTable t) ≡ 0) where
-  count-most : t .count ≤ 256
-  unfolding viewTable
-  count-most = omega (arith, valid (viewTable t) e .counts .links-most, count-shown t)
-
-  shown : (i : ℕ) → i < t .count → linkAt (viewLinks t) i ≡ viewLink (getD (t .numbers) i 0) (getD (t .links) i blankFields)
-  shown i h = link-shown t i (sized t vs good) h count-most
-
-  lines-most : t .lines ≤ 24
-  unfolding viewTable
-  lines-most = valid (viewTable t) e .counts .lines-most
-
-  view-fits : (i : ℕ) → i < t .count → FitLink (recordLink (linkAt (viewLinks t) i))
-  unfolding viewTable
-  view-fits i h =
-      let v = valid (viewTable t) e .fields i (omega (arith, count-shown t)) in
-      let m = lines-most in
-      record {
-        line = omega (arith, v .line-below);
-        priority = v .priority-most;
-        code = v .code-most;
-        least = omega (arith, v .least-from, v .least-greatest);
-        greatest = v .greatest-most;
-        jitter = v .jitter-most;
-      }
-
-  pub fit-table : Fit t
-  fit-table = record { lines = lines-most; count = count-most; each = λ i h. rw (shown i h) at (view-fits i h); shown = shown }
 
 -- ---- the answers
 module _ (t : Table) where
@@ -78,7 +38,7 @@ module _ (t : Table) where
   pub table-refused : (n : ℕ) → n ≡ tableRefusal t → n ≢ 0 → (r : Bounds) → r ≡ record { refused = n; bounds = replicate 8 0; holds = replicate 8 0 } → r ≡ recordBounds (sizing t)
   unfolding boundsRefusal tableRefusal
   table-refused n e z r q =
-      q ∙ refused-is n z (first-append 8 (tableChecks t) _ (table-numbered 8 (omega arith) t) ∙ rw (← e) (first-of n _ z))
+      q ∙ refused-is n z (first-append (tableChecks t) _ (table-numbered t) ∙ rw (← e) (first-of n _ z))
 
   module _ (e : tableRefusal t ≡ 0) where
     -- 8

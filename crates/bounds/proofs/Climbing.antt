@@ -6,7 +6,7 @@ use native.Mathlib.Decide.{decLe}
 use native.Mathlib.Omega.{arith}
 use borrow.Author.Tests.{le-leb, lt-leb}
 use Rattle.model.specs.Table.{Table}
-use Rattle.model.specs.Bounds.{upArrivals, blocking, holdTest, holdOf}
+use Rattle.model.specs.Bounds.{upArrivals, blocking, holdTest, holdBy, holdOf}
 use Rattle.model.specs.Promises.{IsHold}
 use Rattle.model.proofs.Search.{is-first, is-none}
 use Rattle.model.proofs.Holds.{up-grows}
@@ -22,9 +22,9 @@ found-some zero l = absurd (omega arith)
 found-some (suc n) l = refl
 
 pub hold-found : (t : Table) (p w : ℕ) → IsHold t p w → holdOf t p ≡ found w
-unfolding holdOf holdTest
+unfolding holdOf holdBy holdTest
 hold-found t p w h =
-    is-first (holdTest t p) 65_536 1 w
+    is-first (holdTest (blocking t p) (upArrivals t p)) 65_536 1 w
     (record { from = h .least-is; below = omega (arith, h .most-is); holds = le-leb _ _ (h .holds); before = λ k i j. lt-leb _ _ (h .smallest k i j) })
     ∙ sym (found-some w (omega (arith, h .least-is)))
 
@@ -53,8 +53,8 @@ module _ (t : Table) (p : ℕ) where
     climbed-here h l = record { is = hold-found t p (last + 1) (is-hold h l); smallest = λ _. is-hold h l }
 
   pub climbed-none : (last : ℕ) → Unheld t p last → 65_536 ≤ last → Climbed t p 0
-  unfolding holdOf holdTest found
+  unfolding holdOf holdBy holdTest found
   climbed-none last u h = record {
-    is = is-none (holdTest t p) 65_536 1 (λ k i j. lt-leb _ _ (u .none k i (omega arith)));
+    is = is-none (holdTest (blocking t p) (upArrivals t p)) 65_536 1 (λ k i j. lt-leb _ _ (u .none k i (omega arith)));
     smallest = λ l. absurd (omega arith);
   }

@@ -7,7 +7,7 @@ use native.Mathlib.Omega.{arith}
 use lib.ListN.{length}
 use Rattle.model.specs.Basics.{provided}
 use Rattle.model.specs.Link.{VirtualLink, linkAt, anyOf, greatestOver}
-use Rattle.model.specs.Table.{Table}
+use Rattle.model.specs.Table.{Table, tableRefusal}
 use Rattle.model.specs.Bounds.{ofPriority, ownArrivals, upArrivals, blocking, longest, backlog, boundWithin, orZero}
 use Rattle.model.specs.Promises.{IsHold}
 use Rattle.model.proofs.Curves.{greatest-none}
@@ -15,8 +15,7 @@ use Rattle.model.proofs.Holds.{up-grows}
 use Rattle.table.specs.declared.Table.{Table as TableRecord}
 use Rattle.table.specs.View.{viewLinks, viewTable}
 use Rattle.table.proofs.Shape.{count-shown}
-use Rattle.bounds_arrivals.specs.Fit.{Fit}
-use Rattle.bounds_arrivals.proofs.Fitting.{view-link}
+use Rattle.table.proofs.PassingRecord.{link-fits}
 use Rattle.bounds_backlog.specs.Peaks.{Highest}
 use Rattle.bounds_backlog.specs.Stretches.{Given}
 use Rattle.bounds_backlog.proofs.Highest.{highest-is, highest-first}
@@ -35,12 +34,15 @@ any-longest s (v ∷ links) f e = go (s v) refl (any-longest s links (λ i l. f 
     go false q ih = rw q (omega (arith, ih (rw q at e)))
 
 module _ (t : TableRecord) (p m : ℕ) (q : m ≡ longest (viewTable t) p) where
-  pub none-of : Fit t → m ≡ 0 → anyOf (ofPriority p) (viewTable t .links) ≡ false
+  pub none-of : tableRefusal (viewTable t) ≡ 0 → m ≡ 0 → anyOf (ofPriority p) (viewTable t .links) ≡ false
   unfolding longest viewTable
-  none-of f z = go (anyOf (ofPriority p) (viewLinks t)) refl
+  none-of pass z = go (anyOf (ofPriority p) (viewLinks t)) refl
     where
+      long : (i : ℕ) → i < t .count → 84 ≤ linkAt (viewLinks t) i .greatest
+      long i h = let f = link-fits t pass i h in omega arith
+
       go : (b : Bool) → anyOf (ofPriority p) (viewLinks t) ≡ b → b ≡ false
-      go true x = absurd (omega (arith, any-longest (ofPriority p) (viewLinks t) (λ i l. view-link t f i (omega (arith, count-shown t)) .least) x))
+      go true x = absurd (omega (arith, any-longest (ofPriority p) (viewLinks t) (λ i l. long i (omega (arith, count-shown t))) x))
       go false x = refl
 
   pub some-of : 0 < m → anyOf (ofPriority p) (viewTable t .links) ≡ true

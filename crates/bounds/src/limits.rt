@@ -1,9 +1,10 @@
 // Hold and bound of one priority, with the first window at which the bound occurs.
 use crate::busy;
 use table::Table;
+ghost use mathlib.Core.Path.{_≡_};
 ghost use Prim.Native.Nat.{_≤_};
+ghost use Rattle.model.specs.Table.{tableRefusal};
 ghost use Rattle.table.specs.View.{viewTable};
-ghost use Rattle.bounds_arrivals.specs.Fit.{Fit};
 ghost use Rattle.bounds.specs.Limits.{Limited};
 
 // A hold of 0 is none.
@@ -14,7 +15,7 @@ pub struct Limits {
 }
 
 pub(crate) fn limits_of(t: Table, p: u8) -> Limits
-    requires { ⌜ Fit t × (p ≤ 7) ⌝ }
+    requires { ⌜ (tableRefusal (viewTable t) ≡ 0) × (p ≤ 7) ⌝ }
     ensures { λ r. ⌜ Limited (viewTable t) p r ⌝ }
 {
     let b = busy::blocking_of(t, p);

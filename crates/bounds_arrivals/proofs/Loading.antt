@@ -13,15 +13,17 @@ use lib.ListN.{length, getD, take, set, length-set, replicate, length-replicate,
 use lib.Seq.{getD-set-same, getD-set-other, take-all}
 use Rattle.model.specs.Basics.{provided, sumTo}
 use Rattle.model.specs.Link.{VirtualLink, linkAt, sumOver, greatestOver}
+use Rattle.model.specs.Table.{tableRefusal}
 use Rattle.model.specs.Arrival.{frameCurve, onLine, lineCurve, arrivalCurve}
+use Rattle.model.proofs.Bags.{bag-least}
 use Rattle.table.specs.declared.Table.{Table as TableRecord}
-use Rattle.table.specs.View.{viewLink, blankFields, viewLinks}
+use Rattle.table.specs.View.{viewLink, blankFields, viewLinks, viewTable}
 use Rattle.table.proofs.Shape.{count-shown}
+use Rattle.table.proofs.PassingRecord.{counts-pass, link-fits, entry-is}
 use Rattle.bounds_arrivals.specs.declared.Loads.{Loads}
-use Rattle.bounds_arrivals.specs.Fit.{Fit}
 use Rattle.bounds_arrivals.specs.Loads.{within, between, less, lineSum, lineTop, Loaded, flow}
 use Rattle.bounds_arrivals.proofs.Sums.{sumTo-eq, sum-more, greatest-more, line-is}
-use Rattle.bounds_arrivals.proofs.Fitting.{bag-fits, div-few, product-few, provided-few, view-count, view-link}
+use Rattle.bounds_arrivals.proofs.Fitting.{div-few, product-few, provided-few, view-count, line-in}
 
 provided-mul : (b : Bool) (x n : ℕ) → provided b (x * n) ≡ provided b x * n
 unfolding provided
@@ -144,25 +146,25 @@ whole t = take-all (t .count) (viewLinks t) (omega (arith, count-shown t))
 link-few : (v : VirtualLink) (cut w : ℕ) → v .greatest ≤ 1_538 → v .jitter ≤ 125_000 → w ≤ 65_536 → less cut (v .greatest) * frameCurve v w ≤ 24_608
 unfolding frameCurve
 link-few v cut w g j h =
-    product-few (less cut (v .greatest)) (1 + (w + v .jitter) / _) (omega arith) (omega (arith, div-few (w + v .jitter) _ (bag-fits (v .code) .least) (omega arith)))
+    product-few (less cut (v .greatest)) (1 + (w + v .jitter) / _) (omega arith) (omega (arith, div-few (w + v .jitter) _ (bag-least (v .code)) (omega arith)))
 
-module _ (t : TableRecord) (f : Fit t) (s : VirtualLink → Bool) (cut w : ℕ) (small : w ≤ 65_536) where
+module _ (t : TableRecord) (pass : tableRefusal (viewTable t) ≡ 0) (s : VirtualLink → Bool) (cut w : ℕ) (small : w ≤ 65_536) where
   -- how large the sums can be
   pub sum-few : (ℓ i : ℕ) → i ≤ t .count → lineSum (less cut) s (take i (viewLinks t)) ℓ w ≤ 24_608 * i
   unfolding sumOver
   sum-few ℓ zero k = omega arith
   sum-few ℓ (suc i) k =
-      let m = sum-more (onLine s ℓ) (λ u. less cut (u .greatest) * frameCurve u w) (viewLinks t) i (view-count t f i k) in
-      let v = view-link t f i k in
-      let x = provided-few (onLine s ℓ (linkAt (viewLinks t) i)) _ 24_608 (link-few (linkAt (viewLinks t) i) cut w (v .greatest) (v .jitter) small) in
+      let m = sum-more (onLine s ℓ) (λ u. less cut (u .greatest) * frameCurve u w) (viewLinks t) i (view-count t i k) in
+      let v = link-fits t pass i k in
+      let x = provided-few (onLine s ℓ (linkAt (viewLinks t) i)) _ 24_608 (link-few (linkAt (viewLinks t) i) cut w (v .greatest-most) (v .jitter-most) small) in
       rw (← add-one i) (omega (arith, sum-few ℓ i (omega arith)))
 
   top-few : (ℓ i : ℕ) → i ≤ t .count → lineTop (less cut) s (take i (viewLinks t)) ℓ ≤ 1_538
   unfolding greatestOver
   top-few ℓ zero k = omega arith
   top-few ℓ (suc i) k =
-      let m = greatest-more (onLine s ℓ) (λ u. less cut (u .greatest)) (viewLinks t) i (view-count t f i k) in
-      let x = provided-few (onLine s ℓ (linkAt (viewLinks t) i)) (less cut (linkAt (viewLinks t) i .greatest)) 1_538 (omega (arith, view-link t f i k .greatest)) in
+      let m = greatest-more (onLine s ℓ) (λ u. less cut (u .greatest)) (viewLinks t) i (view-count t i k) in
+      let x = provided-few (onLine s ℓ (linkAt (viewLinks t) i)) (less cut (linkAt (viewLinks t) i .greatest)) 1_538 (omega (arith, link-fits t pass i k .greatest-most)) in
       rw (← add-one i) (omega (arith, top-few ℓ i (omega arith)))
 
   pub tops-few : (l : Loads) → Loaded (less cut) s (viewLinks t) w l → (k : ℕ) → k < 24 → getD (l .tops) k 0 ≤ 1_538
@@ -172,12 +174,12 @@ module _ (t : TableRecord) (f : Fit t) (s : VirtualLink → Bool) (cut w : ℕ) 
   load-all l i e d = rw (e, whole t) at d
 
 -- one link of the table more
-module _ (t : TableRecord) (f : Fit t) (low high cut w : ℕ) (sums tops : List ℕ) (i : ℕ) (h : i < t .count)
+module _ (t : TableRecord) (pass : tableRefusal (viewTable t) ≡ 0) (low high cut w : ℕ) (sums tops : List ℕ) (i : ℕ) (h : i < t .count)
     (l : Loaded (less cut) (between low high) (take i (viewLinks t)) w (loadsOf sums tops)) where
   pub load-skip : false ≡ within low high (getD (t .links) i blankFields .priority) → Loaded (less cut) (between low high) (take (i + 1) (viewLinks t)) w (loadsOf sums tops)
   load-skip q =
-      load-other (less cut) (between low high) (viewLinks t) w sums tops i (view-count t f i h) l
-      (viewLink (getD (t .numbers) i 0) (getD (t .links) i blankFields)) (f .shown i h) (sym q)
+      load-other (less cut) (between low high) (viewLinks t) w sums tops i (view-count t i h) l
+      (viewLink (getD (t .numbers) i 0) (getD (t .links) i blankFields)) (entry-is t pass i h) (sym q)
 
   pub load-step : true ≡ within low high (getD (t .links) i blankFields .priority) → (x n top : ℕ) → x ≡ less cut (getD (t .links) i blankFields .greatest)
       → ((k : ℕ) → n ≡ frameCurve (viewLink k (getD (t .links) i blankFields)) w) → top ≡ max (getD tops (getD (t .links) i blankFields .line) 0) x
@@ -185,24 +187,24 @@ module _ (t : TableRecord) (f : Fit t) (low high cut w : ℕ) (sums tops : List 
       (loadsOf (set sums (getD (t .links) i blankFields .line) (getD sums (getD (t .links) i blankFields .line) 0 + x * n)) (set tops (getD (t .links) i blankFields .line) top))
   unfolding provided
   load-step q x n top ex en et =
-      load-more (less cut) (between low high) (viewLinks t) w sums tops i (view-count t f i h) l
-      (viewLink (getD (t .numbers) i 0) (getD (t .links) i blankFields)) (f .shown i h) (f .each i h .line) x n top (rw (← q) ex) (en (getD (t .numbers) i 0)) et
+      load-more (less cut) (between low high) (viewLinks t) w sums tops i (view-count t i h) l
+      (viewLink (getD (t .numbers) i 0) (getD (t .links) i blankFields)) (entry-is t pass i h) (line-in t pass i h) x n top (rw (← q) ex) (en (getD (t .numbers) i 0)) et
 
   -- the sum that is added to
   pub sum-fits : w ≤ 65_536 → getD sums (getD (t .links) i blankFields .line) 0 ≤ 24_608 * 256
   sum-fits small =
       let k = getD (t .links) i blankFields .line in
-      omega (arith, l .sum k (f .each i h .line), sum-few t f (between low high) cut w small k i (omega arith), f .count)
+      omega (arith, l .sum k (line-in t pass i h), sum-few t pass (between low high) cut w small k i (omega arith), counts-pass t pass .links-most)
 
 -- ---- the greatest length
 pub longest-none : (s : VirtualLink → Bool) (links : List VirtualLink) → 0 ≡ greatestOver s (λ v. v .greatest) (take 0 links)
 unfolding greatestOver
 longest-none s links = refl
 
-module _ (t : TableRecord) (f : Fit t) (low high i : ℕ) (h : i < t .count) (top : ℕ) (p : top ≡ greatestOver (between low high) (λ v. v .greatest) (take i (viewLinks t))) where
+module _ (t : TableRecord) (pass : tableRefusal (viewTable t) ≡ 0) (low high i : ℕ) (h : i < t .count) (top : ℕ) (p : top ≡ greatestOver (between low high) (λ v. v .greatest) (take i (viewLinks t))) where
   more : greatestOver (between low high) (λ v. v .greatest) (take (i + 1) (viewLinks t))
       ≡ max (greatestOver (between low high) (λ v. v .greatest) (take i (viewLinks t))) (provided (within low high (getD (t .links) i blankFields .priority)) (getD (t .links) i blankFields .greatest))
-  more = rw (f .shown i h) at (greatest-more (between low high) (λ v. v .greatest) (viewLinks t) i (view-count t f i h))
+  more = rw (entry-is t pass i h) at (greatest-more (between low high) (λ v. v .greatest) (viewLinks t) i (view-count t i h))
 
   pub longest-skip : false ≡ within low high (getD (t .links) i blankFields .priority) → top ≡ greatestOver (between low high) (λ v. v .greatest) (take (i + 1) (viewLinks t))
   unfolding provided

@@ -6,17 +6,17 @@ use native.Mathlib.Decide.{decLe, ℕ-discrete}
 use native.Mathlib.Omega.{arith}
 use lib.Dec.{eqb, leb, ltb}
 use borrow.Author.Tests.{le-leb, lt-leb, lt-ltb, le-ltb, eq-eqb, ne-eqb}
-use Rattle.model.specs.Units.{occupied}
+use Rattle.model.specs.Units.{unkept, occupied}
 use Rattle.model.specs.Link.{VirtualLink, linkAt, greatestOver}
+use Rattle.model.specs.Table.{tableRefusal}
 use Rattle.model.specs.Arrival.{arrivalCurve}
 use Rattle.model.specs.Bounds.{ofPriority, upTo, beyond, ownArrivals, upArrivals, longest, blocking}
 use Rattle.table.specs.declared.Table.{Table as TableRecord}
 use Rattle.table.specs.View.{viewLinks, viewTable}
 use Rattle.table.proofs.Shape.{count-shown}
-use Rattle.bounds_arrivals.specs.Fit.{Fit}
-use Rattle.bounds_arrivals.specs.Loads.{within, between, less, unkept}
+use Rattle.table.proofs.PassingRecord.{link-fits}
+use Rattle.bounds_arrivals.specs.Loads.{within, between, less}
 use Rattle.bounds_arrivals.proofs.Sums.{greatest-same}
-use Rattle.bounds_arrivals.proofs.Fitting.{view-link}
 
 -- ---- weights
 occupied-is : (n : ℕ) → less unkept n ≡ occupied n
@@ -85,12 +85,12 @@ module _ (t : TableRecord) (p : ℕ) where
   unfolding longest viewTable
   longest-is = ap (λ s. greatestOver s (λ v. v .greatest) (viewLinks t)) (own-set p)
 
-  module _ (f : Fit t) where
+  module _ (pass : tableRefusal (viewTable t) ≡ 0) where
     beyond-is : greatestOver (between (p + 1) 7) (λ v. v .greatest) (viewLinks t) ≡ greatestOver (beyond p) (λ v. v .greatest) (viewLinks t)
     unfolding beyond
     beyond-is =
         greatest-same (between (p + 1) 7) (beyond p) (λ v. v .greatest) (viewLinks t)
-        (λ i l. within-beyond p (linkAt (viewLinks t) i .priority) (view-link t f i (omega (arith, count-shown t)) .priority))
+        (λ i l. within-beyond p (linkAt (viewLinks t) i .priority) (link-fits t pass i (omega (arith, count-shown t)) .priority-most))
 
     pub blocking-is : (g b : ℕ) → g ≡ greatestOver (between (p + 1) 7) (λ v. v .greatest) (viewLinks t) → b ≡ g - 1 → b ≡ blocking (viewTable t) p
     unfolding blocking viewTable

@@ -1,2 +1,1 @@
-pub mod Fit
 pub mod Loads

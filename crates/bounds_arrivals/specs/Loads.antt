@@ -21,10 +21,6 @@ between low high v = within low high (v .priority)
 abbrev pub less : ℕ → ℕ → ℕ
 less cut n = n - cut
 
--- the bytes of a frame that its buffer does not keep: what a frame occupies is its length less these
-abbrev pub unkept : ℕ
-unkept = 0
-
 -- the bytes of the members of a set on line ℓ in a window of w, and the longest of their frames
 abbrev pub lineSum : (ℕ → ℕ) → (VirtualLink → Bool) → List VirtualLink → ℕ → ℕ → ℕ
 lineSum weight set links ℓ w = sumOver (onLine set ℓ) (λ v. weight (v .greatest) * frameCurve v w) links

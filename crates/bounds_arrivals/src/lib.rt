@@ -11,9 +11,9 @@ ghost use mathlib.Core.Path.{_≡_};
 ghost use Prim.Native.Nat.{ℕ, _*_, _≤_, _<_};
 ghost use lib.ListN.{getD};
 ghost use Rattle.model.specs.Link.{greatestOver};
+ghost use Rattle.model.specs.Table.{tableRefusal};
 ghost use Rattle.model.specs.Arrival.{frameCurve, arrivalCurve};
-ghost use Rattle.table.specs.View.{viewLink, viewLinks};
-ghost use Rattle.bounds_arrivals.specs.Fit.{FitLink, Fit};
+ghost use Rattle.table.specs.View.{viewLink, viewLinks, viewTable};
 ghost use Rattle.bounds_arrivals.specs.Loads.{within, between, less, Loaded, flow};
 
 // For each line: the bytes of its members' frames, and the longest frame of a member.
@@ -24,7 +24,7 @@ pub struct Loads {
 
 // N_v(w). The BAG is 12,500 ticks times 2 to the power of the code: division by a constant and a shift are faster.
 pub fn frames(l: VirtualLink, w: u64) -> u64
-    requires { ⌜ FitLink l × (w ≤ 65536) ⌝ }
+    requires { ⌜ (l .code ≤ 7) × (l .jitter ≤ 125000) × (w ≤ 65536) ⌝ }
     ensures { λ r. ⌜ ((n : ℕ) → r ≡ frameCurve (viewLink n l) w) × (r ≤ 16) ⌝ }
 {
     1 + ((w + u32_as_u64(l.jitter)) / 12500 >> l.code)
@@ -42,7 +42,7 @@ fn member(l: VirtualLink, low: u8, high: u8) -> bool
 
 // The greatest length of the links of priority low to high.
 pub fn longest(t: Table, low: u8, high: u8) -> u64
-    requires { ⌜ Fit t ⌝ }
+    requires { ⌜ tableRefusal (viewTable t) ≡ 0 ⌝ }
     ensures { λ r. ⌜ (r ≡ greatestOver (between low high) (λ v. v .greatest) (viewLinks t)) × (r ≤ 1538) ⌝ }
 {
     let count = u16_as_usize(t.count);
@@ -61,7 +61,7 @@ pub fn longest(t: Table, low: u8, high: u8) -> u64
 // The loads of the lines by the links of priority low to high in a window of w ticks. A frame counts for its greatest
 // length less what is cut off it.
 pub fn loads_of(t: Table, w: u64, low: u8, high: u8, cut: u64) -> Loads
-    requires { ⌜ Fit t × (w ≤ 65536) ⌝ }
+    requires { ⌜ (tableRefusal (viewTable t) ≡ 0) × (w ≤ 65536) ⌝ }
     ensures { λ r. ⌜ Loaded (less cut) (between low high) (viewLinks t) w r ⌝ }
 {
     let count = u16_as_usize(t.count);
@@ -97,7 +97,7 @@ pub fn total(l: Loads, lines: usize, w: u64) -> u64
 
 // A(w) of the links of priority low to high, in wire bytes.
 pub fn arrivals(t: Table, low: u8, high: u8, w: u64) -> u64
-    requires { ⌜ Fit t × (w ≤ 65536) ⌝ }
+    requires { ⌜ (tableRefusal (viewTable t) ≡ 0) × (w ≤ 65536) ⌝ }
     ensures { λ r. ⌜ (r ≡ arrivalCurve (less 0) (between low high) (t .lines) (viewLinks t) w) × (r ≤ 67074 * 24) ⌝ }
 {
     let l = loads_of(t, w, low, high, 0);

@@ -13,13 +13,15 @@ use lib.ListN.{length, getD, take}
 use lib.Seq.{take-all}
 use Rattle.model.specs.Basics.{provided}
 use Rattle.model.specs.Link.{VirtualLink, bagOf, bag, linkAt, sumOver}
+use Rattle.model.specs.Table.{tableRefusal}
 use Rattle.model.specs.Arrival.{frameCurve, onLine}
-use Rattle.model.proofs.Curves.{bag-positive, frameCurve-mono}
+use Rattle.model.proofs.Bags.{bag-positive}
+use Rattle.model.proofs.Curves.{frameCurve-mono}
 use Rattle.table.specs.declared.VirtualLink.{VirtualLink as LinkFields}
 use Rattle.table.specs.declared.Table.{Table as TableRecord}
-use Rattle.table.specs.View.{viewLink, blankFields, viewLinks}
+use Rattle.table.specs.View.{viewLink, blankFields, viewLinks, viewTable}
 use Rattle.bounds_arrivals.specs.declared.Loads.{Loads}
-use Rattle.bounds_arrivals.specs.Fit.{Fit}
+use Rattle.table.proofs.PassingRecord.{entry-is}
 use Rattle.bounds_arrivals.specs.Loads.{within, between, lineSum, Loaded, flow}
 use Rattle.bounds_arrivals.proofs.Sums.{sum-more}
 use Rattle.bounds_backlog.specs.Peaks.{Bends}
@@ -85,10 +87,10 @@ module _ (s : VirtualLink → Bool) where
       go (no x) = stays-less (linkAt links j) w e r (omega arith) (t j (omega arith))
 
 -- one link of the table more
-pub steady-step : (t : TableRecord) (f : Fit t) (i : ℕ) → i < t .count → (w high d : ℕ) → LinkSteady (getD (t .links) i blankFields) high w d → (last r : ℕ)
+pub steady-step : (t : TableRecord) → tableRefusal (viewTable t) ≡ 0 → (i : ℕ) → i < t .count → (w high d : ℕ) → LinkSteady (getD (t .links) i blankFields) high w d → (last r : ℕ)
     → Steady (between 0 high) (viewLinks t) i w last → r ≡ min last d → Steady (between 0 high) (viewLinks t) (i + 1) w r
-steady-step t f i h w high d s last r a q =
-    steady-more (between 0 high) (viewLinks t) i w last d r a (rw (f .shown i h) (s .stays (getD (t .numbers) i 0))) q
+steady-step t pass i h w high d s last r a q =
+    steady-more (between 0 high) (viewLinks t) i w last d r a (rw (entry-is t pass i h) (s .stays (getD (t .numbers) i 0))) q
 
 -- the loads of a part of the set stay
 module _ (weight : ℕ → ℕ) (s part : VirtualLink → Bool) (sub : (v : VirtualLink) → part v ≡ true → s v ≡ true) (links : List VirtualLink) (w e : ℕ)

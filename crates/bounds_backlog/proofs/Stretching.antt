@@ -4,14 +4,16 @@ use Prim.Native.Nat.{ℕ, _-_, _≤_, min}
 use native.Mathlib.Decide.{decLe}
 use native.Mathlib.Omega.{arith}
 use lib.ListN.{length}
+use Rattle.model.specs.Units.{unkept}
+use Rattle.model.specs.Table.{tableRefusal}
 use Rattle.model.specs.Bounds.{ownArrivals, upArrivals, blocking, longest, backlog}
 use Rattle.model.proofs.Holds.{up-grows}
 use Rattle.table.specs.declared.Table.{Table as TableRecord}
 use Rattle.table.specs.View.{viewLinks, viewTable}
 use Rattle.table.proofs.Shape.{count-shown}
+use Rattle.table.proofs.PassingRecord.{counts-pass}
 use Rattle.bounds_arrivals.specs.declared.Loads.{Loads}
-use Rattle.bounds_arrivals.specs.Fit.{Fit}
-use Rattle.bounds_arrivals.specs.Loads.{between, less, unkept, Loaded, flow}
+use Rattle.bounds_arrivals.specs.Loads.{between, less, Loaded, flow}
 use Rattle.bounds_arrivals.proofs.Loading.{flow-is, tops-few}
 use Rattle.bounds_arrivals.proofs.Views.{own-within-up, own-arrivals, up-arrivals}
 use Rattle.bounds_backlog.specs.declared.Stretch.{Stretch}
@@ -20,7 +22,7 @@ use Rattle.bounds_backlog.specs.Stretches.{Steady, Given, Sized, Stretch
 use Rattle.bounds_backlog.proofs.Bending.{drained-bends}
 use Rattle.bounds_backlog.proofs.Steadiness.{steady-less, load-stays, flow-bends}
 
-module _ (t : TableRecord) (f : Fit t) (p b m last w : ℕ) (g : Given (viewTable t) p b m last) (h : w ≤ last)
+module _ (t : TableRecord) (pass : tableRefusal (viewTable t) ≡ 0) (p b m last w : ℕ) (g : Given (viewTable t) p b m last) (h : w ≤ last)
     (own up : Loads) (lo : Loaded (less unkept) (between p p) (viewLinks t) w own) (lu : Loaded (less 0) (between 0 p) (viewLinks t) w up)
     (e u : ℕ) (we : w ≤ e) (st : Steady (between 0 p) (viewLinks t) (t .count) w e) (q : u ≡ min e last) (lines : ℕ) (ql : lines ≡ t .lines) where
   stretch : Stretch
@@ -32,14 +34,14 @@ module _ (t : TableRecord) (f : Fit t) (p b m last w : ℕ) (g : Given (viewTabl
   own-is : (k : ℕ) → w ≤ k → k ≤ u → flow own lines k ≡ ownArrivals (viewTable t) p k
   own-is k x y =
       rw ql
-      (flow-is (less unkept) (between p p) (viewLinks t) k own (t .lines) (f .lines)
+      (flow-is (less unkept) (between p p) (viewLinks t) k own (t .lines) (counts-pass t pass .lines-most)
       (load-stays (less unkept) (between 0 p) (between p p) (own-within-up p) (viewLinks t) w u steady k x y own lo)
       ∙ own-arrivals t p k)
 
   up-is : (k : ℕ) → w ≤ k → k ≤ u → flow up lines k ≡ upArrivals (viewTable t) p k
   up-is k x y =
       rw ql
-      (flow-is (less 0) (between 0 p) (viewLinks t) k up (t .lines) (f .lines)
+      (flow-is (less 0) (between 0 p) (viewLinks t) k up (t .lines) (counts-pass t pass .lines-most)
       (load-stays (less 0) (between 0 p) (between 0 p) (λ v z. z) (viewLinks t) w u steady k x y up lu)
       ∙ up-arrivals t p k)
 
@@ -65,11 +67,11 @@ module _ (t : TableRecord) (f : Fit t) (p b m last w : ℕ) (g : Given (viewTabl
   sized : Sized stretch
   unfolding stretch
   sized = record {
-    lines-most = omega (arith, f .lines);
+    lines-most = omega (arith, counts-pass t pass .lines-most);
     some-link = g .some-link;
     longest-most = g .longest-most;
-    own-most = tops-few t f (between p p) unkept w most own lo;
-    up-most = tops-few t f (between 0 p) 0 w most up lu;
+    own-most = tops-few t pass (between p p) unkept w most own lo;
+    up-most = tops-few t pass (between 0 p) 0 w most up lu;
   }
 
   pub stretched : Stretched (backlog (viewTable t) p) w last (record { own = own; up = up; lines = lines; blocking = b; longest = m; start = w; last = u })

@@ -3,11 +3,12 @@
 use bounds_arrivals::Loads;
 use table::Table;
 use table::VirtualLink;
+use units::UNKEPT;
 ghost use mathlib.Core.Path.{_≡_};
 ghost use Prim.Native.Nat.{_+_, _≤_, _<_};
+ghost use Rattle.model.specs.Table.{tableRefusal};
 ghost use Rattle.model.specs.Bounds.{backlog};
 ghost use Rattle.table.specs.View.{viewLinks, viewTable};
-ghost use Rattle.bounds_arrivals.specs.Fit.{FitLink, Fit};
 ghost use Rattle.bounds_arrivals.specs.Loads.{between};
 ghost use Rattle.bounds_backlog.specs.Peaks.{Crest, Highest};
 ghost use Rattle.bounds_backlog.specs.Stretches.{LinkSteady, Steady, Given, Sized, Steep, Stretched, Improved, Raised, backlogBy, backlogIn};
@@ -31,7 +32,7 @@ pub struct Peak {
 
 // The last window in which the link still has the frames of w, or any other if its priority is above high.
 fn link_steady(l: VirtualLink, high: u8, w: u64) -> u64
-    requires { ⌜ FitLink l × (w < 65536) ⌝ }
+    requires { ⌜ (l .code ≤ 7) × (l .jitter ≤ 125000) × (w < 65536) ⌝ }
     ensures { λ r. ⌜ LinkSteady l high w r ⌝ }
 {
     if high < l.priority {
@@ -43,7 +44,7 @@ fn link_steady(l: VirtualLink, high: u8, w: u64) -> u64
 
 // A window up to which no link of priority 0 to high has more frames than in w.
 fn steady(t: Table, w: u64, high: u8) -> u64
-    requires { ⌜ Fit t × (w < 65536) ⌝ }
+    requires { ⌜ (tableRefusal (viewTable t) ≡ 0) × (w < 65536) ⌝ }
     ensures { λ r. ⌜ (w ≤ r) × Steady (between 0 high) (viewLinks t) (t .count) w r ⌝ }
 {
     let count = numbers::u16_as_usize(t.count);
@@ -59,10 +60,10 @@ fn steady(t: Table, w: u64, high: u8) -> u64
 
 // The stretch from w, which ends by last.
 fn stretch_at(t: Table, p: u8, blocking: u64, longest: u64, w: u64, last: u64) -> Stretch
-    requires { ⌜ Given (viewTable t) p blocking longest last × Fit t × (w ≤ last) ⌝ }
+    requires { ⌜ Given (viewTable t) p blocking longest last × (tableRefusal (viewTable t) ≡ 0) × (w ≤ last) ⌝ }
     ensures { λ r. ⌜ Stretched (backlog (viewTable t) p) w last r ⌝ }
 {
-    let own = bounds_arrivals::loads_of(t, w, p, p, 0);
+    let own = bounds_arrivals::loads_of(t, w, p, p, UNKEPT);
     let up = bounds_arrivals::loads_of(t, w, 0, p, 0);
     let until = numbers::smaller(steady(t, w, p), last);
     let lines = numbers::u16_as_usize(t.lines);
@@ -141,7 +142,7 @@ fn improved(best: Peak, s: Stretch) -> Peak
 
 // The greatest backlog of priority p over the windows from 0 to last, stretch by stretch.
 pub fn peak_of(t: Table, p: u8, blocking: u64, longest: u64, last: u64) -> Peak
-    requires { ⌜ Given (viewTable t) p blocking longest last × Fit t ⌝ }
+    requires { ⌜ Given (viewTable t) p blocking longest last × (tableRefusal (viewTable t) ≡ 0) ⌝ }
     ensures { λ r. ⌜ Highest (backlog (viewTable t) p) (last + 1) (r .backlog) (r .window) ⌝ }
 {
     let mut best = Peak {

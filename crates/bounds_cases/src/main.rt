@@ -2,6 +2,7 @@
 // src/cases/bounds.rs has the form of a case: length in two bytes, as many bytes.
 use libc::STDIN_FILENO;
 use libc::STDOUT_FILENO;
+use little_endian::read2;
 
 // The longest case that is taken.
 const ROOM: usize = 5000;
@@ -20,7 +21,7 @@ fn next_case() -> bool {
     if io::read_full(STDIN_FILENO, &mut head) < 2 {
         return false;
     }
-    let length = length_of(&head) as isize;
+    let length = read2(&head, 0) as isize;
     let mut body = [0u8; ROOM];
     if !take(length, &mut body) {
         return false;
@@ -28,14 +29,6 @@ fn next_case() -> bool {
     let n = io::count(length, &body);
     print_sheet(&body[..n]);
     true
-}
-
-fn byte(s: &[u8], at: usize) -> u8 {
-    if at < s.len() { s[at] } else { 0 }
-}
-
-fn length_of(head: &[u8]) -> u16 {
-    byte(head, 0) as u16 + 256 * (byte(head, 1) as u16)
 }
 
 fn print_sheet(file: &[u8]) {

@@ -1,58 +1,25 @@
 -- Numbers in bytes, over any width.
-use mathlib.Core.Path.{_≡_, refl, ap}
+use mathlib.Core.Path.{_≡_, refl}
 use mathlib.Core.List.{List, [], _∷_, _++_, flatMap, append-assoc}
-use Prim.Native.Nat.{ℕ, zero, suc, _+_, _*_, _/_, _%_, _^_, _≤_, _<_, min}
+use Prim.Native.Nat.{ℕ, zero, suc, _+_, _*_, _^_, _≤_, _<_, min}
 use native.Mathlib.Nat.{mul-zero}
 use native.Mathlib.Omega.{arith}
 use lib.ListN.{length, getD, take, drop, length-take, length-drop, take-append-drop}
 use lib.Seq.{getD-take, getD-drop, drop-drop, take-at, drop-at}
+use Rattle.model.specs.Digits.{AllDigits}
 use Rattle.model.specs.TableFile.{toBytes, fromBytes, numberAt}
 use Rattle.model.proofs.Lists.{listTo}
+use Rattle.model.proofs.Digits.{length-digits, from-to, to-from}
 
 -- every element is a byte
 abbrev pub AllBytes : List ℕ → Type 0
-AllBytes bytes = (i : ℕ) → i < length bytes → getD bytes i 0 < 256
+AllBytes bytes = AllDigits 256 bytes
 
 pub length-toBytes : (k n : ℕ) → length (toBytes k n) ≡ k
-unfolding toBytes
-length-toBytes zero n = refl
-length-toBytes (suc k) n = ap suc (length-toBytes k (n / 256))
-
-pub toBytes-bytes : (k n : ℕ) → AllBytes (toBytes k n)
-unfolding toBytes
-toBytes-bytes zero n i h = absurd (omega arith)
-toBytes-bytes (suc k) n zero h = omega arith
-toBytes-bytes (suc k) n (suc i) h = toBytes-bytes k (n / 256) i (omega arith)
+length-toBytes k n = length-digits 256 k n
 
 pub from-toBytes : (k n : ℕ) → n < 256 ^ k → fromBytes (toBytes k n) ≡ n
-unfolding toBytes fromBytes
-from-toBytes zero n h = omega arith
-from-toBytes (suc k) n h = omega (arith, from-toBytes k (n / 256) (omega arith))
-
--- the first of a list of bytes is one, and the others are
-all-head : (b : ℕ) (bytes : List ℕ) → AllBytes (b ∷ bytes) → b < 256
-all-head b bytes all = all 0 (omega arith)
-
-all-tail : (b : ℕ) (bytes : List ℕ) → AllBytes (b ∷ bytes) → AllBytes bytes
-all-tail b bytes all i h = all (suc i) (omega arith)
-
-pub fromBytes-below : (k : ℕ) (bytes : List ℕ) → length bytes ≡ k → AllBytes bytes → fromBytes bytes < 256 ^ k
-unfolding fromBytes
-fromBytes-below zero [] e all = omega arith
-fromBytes-below zero (b ∷ bytes) e all = absurd (omega arith)
-fromBytes-below (suc k) [] e all = absurd (omega arith)
-fromBytes-below (suc k) (b ∷ bytes) e all = omega (arith, all-head b bytes all, fromBytes-below k bytes (omega arith) (all-tail b bytes all))
-
-pub to-fromBytes : (k : ℕ) (bytes : List ℕ) → length bytes ≡ k → AllBytes bytes → toBytes k (fromBytes bytes) ≡ bytes
-unfolding toBytes fromBytes
-to-fromBytes zero [] e all = refl
-to-fromBytes zero (b ∷ bytes) e all = absurd (omega arith)
-to-fromBytes (suc k) [] e all = absurd (omega arith)
-to-fromBytes (suc k) (b ∷ bytes) e all =
-    let below : b < 256 = all-head b bytes all in
-    let low : (b + 256 * fromBytes bytes) % 256 ≡ b = omega arith in
-    let high : (b + 256 * fromBytes bytes) / 256 ≡ fromBytes bytes = omega arith in
-    rw (low, high, to-fromBytes k bytes (omega arith) (all-tail b bytes all))
+from-toBytes k n h = from-to 256 k n h
 
 -- ---- parts of a list of bytes
 
@@ -69,7 +36,10 @@ all-take n bytes all i h =
 -- the k bytes from place i on are those of the number that stands there
 pub number-bytes : (i k : ℕ) (bytes : List ℕ) → AllBytes bytes → i + k ≤ length bytes → toBytes k (numberAt i k bytes) ++ drop (i + k) bytes ≡ drop i bytes
 number-bytes i k bytes all h =
-    rw (← drop-drop) (rw (to-fromBytes k (take k (drop i bytes)) (omega (arith, length-take k (drop i bytes), length-drop i bytes)) (all-take k (drop i bytes) (all-drop i bytes all))) (take-append-drop k (drop i bytes)))
+    let part = take k (drop i bytes) in
+    let long : length part ≡ k = omega (arith, length-take k (drop i bytes), length-drop i bytes) in
+    let same : toBytes k (fromBytes part) ≡ part = rw long at (to-from 256 part (all-take k (drop i bytes) (all-drop i bytes all))) in
+    rw (← drop-drop, same) (take-append-drop k (drop i bytes))
 
 -- the bytes of n numbers at places k apart are those that stand there
 pub numbers-bytes : (k : ℕ) (bytes : List ℕ) → AllBytes bytes → (n : ℕ) (place : ℕ → ℕ) → ((p : ℕ) → place p + k ≡ place (suc p)) → ((p : ℕ) → p < n → place p + k ≤ length bytes)

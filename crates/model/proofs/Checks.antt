@@ -3,7 +3,7 @@ use mathlib.Core.Path.{_≡_, refl, sym, _∙_}
 use mathlib.Core.Logic.{_≢_, _⊎_, inl, inr}
 use mathlib.Core.Bool.{Bool, true, false, cond, and-eq-true-iff}
 use mathlib.Core.List.{List, [], _∷_, _++_}
-use Prim.Native.Nat.{ℕ, zero, suc, _≤_, _<_}
+use Prim.Native.Nat.{ℕ, zero, suc, _<_}
 use native.Mathlib.Nat.{le-refl, eq-or-lt-of-le}
 use native.Mathlib.Omega.{arith}
 use Rattle.model.specs.Basics.{allTo, allHold, Check, firstMet, firstRefusal}
@@ -60,23 +60,14 @@ first-zero c cs h e = go (c .met) refl
 
 -- ---- numbers of checks
 
--- each number is from 1 to most
-abbrev pub Numbered : ℕ → List Check → Type 0
-Numbered most [] = Unit {0}
-Numbered most (c ∷ cs) = (0 < c .number) × (c .number ≤ most) × Numbered most cs
+-- no number is 0, which stands for none
+abbrev pub Numbered : List Check → Type 0
+Numbered [] = Unit {0}
+Numbered (c ∷ cs) = (0 < c .number) × Numbered cs
 
-pub numbered-append : (most : ℕ) (a b : List Check) → Numbered most a → Numbered most b → Numbered most (a ++ b)
-numbered-append most [] b p q = q
-numbered-append most (c ∷ a) b p q = (p .0, p .1, numbered-append most a b (p .2) q)
-
-pub first-most : (most : ℕ) (cs : List Check) → Numbered most cs → firstMet cs ≤ most
-unfolding firstMet
-first-most most [] each = omega arith
-first-most most (c ∷ cs) each = go (c .met) (first-most most cs (each .2))
-  where
-    go : (b : Bool) → firstMet cs ≤ most → cond b (c .number) (firstMet cs) ≤ most
-    go true later = each .1
-    go false later = later
+pub numbered-append : (a b : List Check) → Numbered a → Numbered b → Numbered (a ++ b)
+numbered-append [] b p q = q
+numbered-append (c ∷ a) b p q = (p .0, numbered-append a b (p .1) q)
 
 -- no check has that number
 abbrev pub Apart : ℕ → List Check → Type 0
@@ -110,9 +101,9 @@ pub none-back : (a b : List Check) → NoneMet (a ++ b) → NoneMet b
 none-back [] b p = p
 none-back (c ∷ a) b p = none-back a b (p .1)
 
-pub none-met : (most : ℕ) (cs : List Check) → Numbered most cs → firstMet cs ≡ 0 → NoneMet cs
-none-met most [] each e = tt
-none-met most (c ∷ cs) each e = let parts = first-zero c cs (each .0) e in (parts .0, none-met most cs (each .2) (parts .1))
+pub none-met : (cs : List Check) → Numbered cs → firstMet cs ≡ 0 → NoneMet cs
+none-met [] each e = tt
+none-met (c ∷ cs) each e = let parts = first-zero c cs (each .0) e in (parts .0, none-met cs (each .1) (parts .1))
 
 -- past checks that are not met
 pub first-past : (a b : List Check) → NoneMet a → firstMet (a ++ b) ≡ firstMet b
@@ -130,10 +121,10 @@ refused-first zero m h = absurd (omega arith)
 refused-first (suc n) m h = refl
 
 -- the answer of the first list, or where that meets none, of the second
-pub first-append : (most : ℕ) (a b : List Check) → Numbered most a → firstMet (a ++ b) ≡ firstRefusal (firstMet a) (firstMet b)
+pub first-append : (a b : List Check) → Numbered a → firstMet (a ++ b) ≡ firstRefusal (firstMet a) (firstMet b)
 unfolding firstMet firstRefusal
-first-append most [] b each = refl
-first-append most (c ∷ a) b each = go (c .met) (first-append most a b (each .2))
+first-append [] b each = refl
+first-append (c ∷ a) b each = go (c .met) (first-append a b (each .1))
   where
     go : (m : Bool) → firstMet (a ++ b) ≡ firstRefusal (firstMet a) (firstMet b) → cond m (c .number) (firstMet (a ++ b)) ≡ firstRefusal (cond m (c .number) (firstMet a)) (firstMet b)
     go true later = sym (refused-first (c .number) (firstMet b) (each .0))

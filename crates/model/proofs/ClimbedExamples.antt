@@ -10,7 +10,8 @@ use lib.ListN.{take}
 use Rattle.model.specs.Basics.{provided, sumTo, eight, allHold, firstMet, firstRefusal}
 use Rattle.model.specs.Link.{bagOf, anyOf, sumOver, greatestOver}
 use Rattle.model.specs.Table.{Table, sizeOf, countsInRange, fieldsInRange, notAbove, linksChecks, allAtMost, tableChecks, tableRefusal}
-use Rattle.model.specs.TableFile.{toBytes, recordBytes, countsBody, linkBody, sizesBody, tableBytes, readTable}
+use Rattle.model.specs.Digits.{digitsOf}
+use Rattle.model.specs.TableFile.{recordBytes, countsBody, linkBody, sizesBody, tableBytes, readTable}
 use Rattle.model.specs.Arrival.{frameCurve, onLine, lineCurve, arrivalCurve}
 use Rattle.model.specs.Bounds.{ofPriority, upTo, beyond, upArrivals, blocking, holdOf, boundWithin, isThere, orZero, boundsRefusal, hold, bound}
 use Rattle.model.specs.Sheet.{text, digits, numeral, difference, fill, sheetLine, header, sheetOr, sheet}
@@ -52,7 +53,7 @@ unfolding the-checks
 e-passes = refl
 
 e-read : readTable (take 4_653 (tableBytes tableE)) ≡ record { refused = 0; table = tableE }
-unfolding tableBytes recordBytes countsBody linkBody sizesBody toBytes flatMap
+unfolding tableBytes recordBytes countsBody linkBody sizesBody digitsOf flatMap
 e-read = read-written tableE e-passes
 
 -- 1,499, and 1,500 from priority 1 on

@@ -5,12 +5,12 @@ use mathlib.Core.List.{List, [], _∷_, List·Memᴰ, List·Memᴰ·head, List·
 use Prim.Native.Nat.{ℕ, zero, suc, _+_, _*_, _/_, _≤_, _<_, max}
 use native.Mathlib.Nat.{le-refl, le-trans, le-div-iff-mul-le, div-mul-le-self, mul-le-mul-left, add-le-add}
 use native.Mathlib.Omega.{arith}
-use lib.Dec.{lit<}
 use Rattle.model.specs.Basics.{provided, sumTo}
 use Rattle.model.specs.Units.{occupied}
-use Rattle.model.specs.Link.{VirtualLink, bagOf, bag, anyOf, sumOver, greatestOver}
+use Rattle.model.specs.Link.{VirtualLink, bag, anyOf, sumOver, greatestOver}
 use Rattle.model.specs.Arrival.{frameCurve, onLine, lineCurve, arrivalCurve}
 use Rattle.model.specs.Promises.{Weight, CurveGrows}
+use Rattle.model.proofs.Bags.{bag-positive}
 
 pub wire-weight : Weight (λ n. n)
 wire-weight = record { grows = λ a b l. l; below = λ a. le-refl a }
@@ -18,21 +18,6 @@ wire-weight = record { grows = λ a b l. l; below = λ a. le-refl a }
 pub occupied-weight : Weight occupied
 unfolding occupied
 occupied-weight = record { grows = λ a b l. omega arith; below = λ a. omega arith }
-
-pub bag-positive : (v : VirtualLink) → 0 < bag v
-unfolding bagOf
-bag-positive v = go (v .code)
-  where
-    go : (code : ℕ) → 0 < bagOf code
-    go zero = lit< tt
-    go (suc zero) = lit< tt
-    go (suc (suc zero)) = lit< tt
-    go (suc (suc (suc zero))) = lit< tt
-    go (suc (suc (suc (suc zero)))) = lit< tt
-    go (suc (suc (suc (suc (suc zero))))) = lit< tt
-    go (suc (suc (suc (suc (suc (suc zero)))))) = lit< tt
-    go (suc (suc (suc (suc (suc (suc (suc zero))))))) = lit< tt
-    go (suc (suc (suc (suc (suc (suc (suc (suc n)))))))) = lit< tt
 
 -- ---- a number where a test holds
 pub provided-true : (b : Bool) (x : ℕ) → b ≡ true → provided b x ≡ x

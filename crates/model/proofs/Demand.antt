@@ -27,7 +27,7 @@ use Rattle.model.proofs.Curves.{occupied-weight}
 use Rattle.model.proofs.Passed.{Passed}
 use Rattle.model.proofs.Gate.{numbers-apart, renewed, reduced, after-set, full-at}
 use Rattle.model.proofs.Keeping.{keeping-before, Paid, paid-start, paid-covers, paid-charged}
-use Rattle.model.proofs.ValidTable.{Valid, valid}
+use Rattle.model.proofs.Passing.{Passing, is-passing}
 use Rattle.model.proofs.Queues.{up-none}
 use Rattle.model.proofs.BusyPeriod.{Sound, Before, over}
 use Rattle.model.proofs.BusySteps.{stored-sound}
@@ -147,7 +147,7 @@ module _ (t : Table) (log : List Entry) (e : Entry) (s : Port) (i' : Invariant t
       }
 
 -- ---- a report
-module _ (t : Table) (b : HasBounds t) (v : Valid t) (s : Port) (log : List Entry) (k : DemandKept t s log) (list : List ℕ) where
+module _ (t : Table) (b : HasBounds t) (v : Passing t) (s : Port) (log : List Entry) (k : DemandKept t s log) (list : List ℕ) where
   refused-kept : (r : Report) (n : ℕ) → Invariant t s (declined r n list ∷ log) → DemandKept t s (declined r n list ∷ log)
   unfolding heldFrames andLast withoutAll storedBy droppedBy policedBy throughBy passedFrames passedBy andPassed
   refused-kept r n i' =
@@ -401,8 +401,8 @@ run-demand t b [] = fresh-demand t b
 run-demand t b (c ∷ calls) =
     let k = run-demand t b calls in
     let x = stepping t (run t calls .port) (c .list) (c .report) in
-    kept-after t b (valid t (b .table)) (run t calls .port) (run t calls .log) k (c .list) x
-    (step-kept t (valid t (b .table)) (run t calls .port) (run t calls .log) (k .invariant) (c .list) x)
+    kept-after t b (is-passing t (b .table)) (run t calls .port) (run t calls .log) k (c .list) x
+    (step-kept t (is-passing t (b .table)) (run t calls .port) (run t calls .log) (k .invariant) (c .list) x)
 
 pub demand-three : DemandThree
 unfolding heldOf

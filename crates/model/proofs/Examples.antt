@@ -12,7 +12,7 @@ use Rattle.model.specs.Units.{occupied}
 use Rattle.model.specs.Link.{bagOf, placeOf, anyOf, sumOver, greatestOver}
 use Rattle.model.specs.Table.{countsInRange, fieldsInRange, notAbove, linksChecks, allAtMost, tableChecks, tableRefusal}
 use Rattle.model.specs.Arrival.{frameCurve, onLine, lineCurve, arrivalCurve}
-use Rattle.model.specs.Bounds.{ofPriority, upTo, beyond, ownArrivals, upArrivals, longest, blocking, holdTest, holdOf, backlog, boundWithin, isThere, orZero, boundsRefusal, hold, bound}
+use Rattle.model.specs.Bounds.{ofPriority, upTo, beyond, ownArrivals, upArrivals, longest, blocking, holdTest, holdBy, holdOf, backlog, boundWithin, isThere, orZero, boundsRefusal, hold, bound}
 use Rattle.model.specs.TableFile.{tableBytes}
 use Rattle.model.specs.Sheet.{text, sheet}
 use Rattle.model.specs.Machine.{highestWaiting, startIfAny, started, freedIf, byteLeaves, tick, ticks, advance, bytes, framesHeld}
@@ -106,7 +106,7 @@ unfolding computes sameOutcomes sameOutcome sameNumbers outcomes run step accept
 the-port = 0
 
 the-formulas : ℕ
-unfolding computes sameNumbers boundsRefusal hold bound orZero isThere boundWithin backlog holdOf holdTest blocking longest upArrivals ownArrivals beyond upTo ofPriority arrivalCurve lineCurve onLine frameCurve greatestOver sumOver anyOf bagOf tableChecks allAtMost linksChecks notAbove fieldsInRange countsInRange provided sumTo greatestTo allTo allHold firstFrom firstMet occupied
+unfolding computes sameNumbers boundsRefusal hold bound orZero isThere boundWithin backlog holdOf holdBy holdTest blocking longest upArrivals ownArrivals beyond upTo ofPriority arrivalCurve lineCurve onLine frameCurve greatestOver sumOver anyOf bagOf tableChecks allAtMost linksChecks notAbove fieldsInRange countsInRange provided sumTo greatestTo allTo allHold firstFrom firstMet occupied
 the-formulas = 0
 
 pub c : Correct example.c

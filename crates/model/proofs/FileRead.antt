@@ -2,7 +2,7 @@
 use mathlib.Core.Path.{_≡_, refl, ap, _∙_}
 use mathlib.Core.Option.{Option, none, some}
 use mathlib.Core.List.{List, [], _∷_, _++_, append-assoc, append-nil}
-use Prim.Native.Nat.{ℕ, zero, suc, _≤_, _<_}
+use Prim.Native.Nat.{ℕ, zero, suc, _<_}
 use native.Mathlib.Omega.{arith}
 use lib.ListN.{length, drop}
 use lib.Seq.{append-snoc}
@@ -10,8 +10,8 @@ use Rattle.model.specs.Basics.{Check, firstMet, firstRefusal}
 use Rattle.model.specs.Link.{VirtualLink}
 use Rattle.model.specs.Table.{Table, blankTable, linkChecks, linksChecks, tableRefusal}
 use Rattle.model.specs.TableFile.{numberAt, headerChecks, linkRead, sizesRead, countRecordChecks, linkRecordChecks, sizesRecordChecks, Reading, stopOr, readSizes, readLinks, readTable}
-use Rattle.model.proofs.Checks.{Numbered, numbered-append, first-most, first-append, NoneMet, none-append, none-front, none-back, none-met, first-none}
-use Rattle.model.proofs.TableFacts.{Passes, passes-refusal}
+use Rattle.model.proofs.Checks.{Numbered, numbered-append, first-append, NoneMet, none-append, none-front, none-back, none-met, first-none}
+use Rattle.model.proofs.TableFacts.{parts-unmet}
 
 -- ---- what stands in the bytes
 
@@ -41,35 +41,35 @@ fileChecks file =
     let n = numberAt 6 2 file in
     countRecordChecks file ++ (linkRecordsChecks (numberAt 4 2 file) n none (drop 8 file) ++ sizesRecordChecks (behindLinks n (drop 8 file)))
 
--- ---- their numbers are 1 to 7
+-- ---- none has number 0
 
-count-record-numbered : (file : List ℕ) → Numbered 7 (countRecordChecks file)
+count-record-numbered : (file : List ℕ) → Numbered (countRecordChecks file)
 unfolding countRecordChecks headerChecks
 count-record-numbered file = omega arith
 
-link-record-numbered : (lines : ℕ) (previous : Option ℕ) (rest : List ℕ) → Numbered 7 (linkRecordChecks lines previous rest)
+link-record-numbered : (lines : ℕ) (previous : Option ℕ) (rest : List ℕ) → Numbered (linkRecordChecks lines previous rest)
 unfolding linkRecordChecks headerChecks
 link-record-numbered lines previous rest = omega arith
 
-sizes-record-numbered : (rest : List ℕ) → Numbered 7 (sizesRecordChecks rest)
+sizes-record-numbered : (rest : List ℕ) → Numbered (sizesRecordChecks rest)
 unfolding sizesRecordChecks headerChecks
 sizes-record-numbered rest = omega arith
 
-link-records-numbered : (lines n : ℕ) (previous : Option ℕ) (rest : List ℕ) → Numbered 7 (linkRecordsChecks lines n previous rest)
+link-records-numbered : (lines n : ℕ) (previous : Option ℕ) (rest : List ℕ) → Numbered (linkRecordsChecks lines n previous rest)
 unfolding linkRecordsChecks
 link-records-numbered lines zero previous rest = tt
 link-records-numbered lines (suc n) previous rest =
     let later = some (linkRead rest .number) in
-    numbered-append 7 (linkRecordChecks lines previous rest) (linkRecordsChecks lines n later (drop 18 rest)) (link-record-numbered lines previous rest) (link-records-numbered lines n later (drop 18 rest))
+    numbered-append (linkRecordChecks lines previous rest) (linkRecordsChecks lines n later (drop 18 rest)) (link-record-numbered lines previous rest) (link-records-numbered lines n later (drop 18 rest))
 
-pub file-numbered : (file : List ℕ) → Numbered 7 (fileChecks file)
+pub file-numbered : (file : List ℕ) → Numbered (fileChecks file)
 unfolding fileChecks
 file-numbered file =
     let n = numberAt 6 2 file in
     let links = linkRecordsChecks (numberAt 4 2 file) n none (drop 8 file) in
     let sizes = sizesRecordChecks (behindLinks n (drop 8 file)) in
-    numbered-append 7 (countRecordChecks file) (links ++ sizes) (count-record-numbered file)
-    (numbered-append 7 links sizes (link-records-numbered (numberAt 4 2 file) n none (drop 8 file)) (sizes-record-numbered (behindLinks n (drop 8 file))))
+    numbered-append (countRecordChecks file) (links ++ sizes) (count-record-numbered file)
+    (numbered-append links sizes (link-records-numbered (numberAt 4 2 file) n none (drop 8 file)) (sizes-record-numbered (behindLinks n (drop 8 file))))
 
 -- ---- the reader is these checks and this table
 
@@ -81,8 +81,8 @@ unfolding stopOr firstRefusal
 stop-first zero m next = refl
 stop-first (suc n) m next = refl
 
-stop-append : (a b : List Check) (next : Reading) → Numbered 7 a → stopOr (firstMet a) (stopOr (firstMet b) next) ≡ stopOr (firstMet (a ++ b)) next
-stop-append a b next each = rw (first-append 7 a b each) (stop-first (firstMet a) (firstMet b) next)
+stop-append : (a b : List Check) (next : Reading) → Numbered a → stopOr (firstMet a) (stopOr (firstMet b) next) ≡ stopOr (firstMet (a ++ b)) next
+stop-append a b next each = rw (first-append a b each) (stop-first (firstMet a) (firstMet b) next)
 
 links-reading : (lines n : ℕ) (previous : Option ℕ) (links : List VirtualLink) (rest : List ℕ)
     → readLinks lines n previous links rest
@@ -108,11 +108,6 @@ reading file =
 
 -- ---- what follows for every file
 
-stop-most : (most n : ℕ) (t : Table) → n ≤ most → stopOr n (read t) .refused ≤ most
-unfolding stopOr
-stop-most most zero t h = omega arith
-stop-most most (suc n) t h = h
-
 stop-blank : (n : ℕ) (t : Table) → 0 < stopOr n (read t) .refused → stopOr n (read t) .table ≡ blankTable
 unfolding stopOr
 stop-blank zero t h = absurd (omega arith)
@@ -128,16 +123,12 @@ unfolding stopOr
 stop-past zero next e = refl
 stop-past (suc n) next e = absurd (omega arith)
 
--- a refusal is one of 1 to 7
-pub refused-most : (file : List ℕ) → readTable file .refused ≤ 7
-refused-most file = rw reading (stop-most 7 (firstMet (fileChecks file)) (tableIn file) (first-most 7 (fileChecks file) (file-numbered file)))
-
 -- with a refusal there is no table
 pub refused-blank : (file : List ℕ) → 0 < readTable file .refused → readTable file .table ≡ blankTable
 refused-blank file h = rw reading (stop-blank (firstMet (fileChecks file)) (tableIn file) (rw reading at h))
 
 pub read-none-met : (file : List ℕ) → readTable file .refused ≡ 0 → NoneMet (fileChecks file)
-read-none-met file e = none-met 7 (fileChecks file) (file-numbered file) (stop-none (firstMet (fileChecks file)) (tableIn file) (rw reading at e))
+read-none-met file e = none-met (fileChecks file) (file-numbered file) (stop-none (firstMet (fileChecks file)) (tableIn file) (rw reading at e))
 
 pub none-met-read : (file : List ℕ) → NoneMet (fileChecks file) → readTable file ≡ read (tableIn file)
 none-met-read file pass = reading file ∙ stop-past (firstMet (fileChecks file)) (read (tableIn file)) (first-none (fileChecks file) pass)
@@ -183,17 +174,14 @@ links-pass lines (suc n) previous rest pass =
     let back = none-back (linkRecordChecks lines previous rest) (linkRecordsChecks lines n (some (v .number)) (drop 18 rest)) pass in
     none-append (linkChecks lines previous v) (linksChecks lines (some (v .number)) (linksIn n (drop 18 rest))) (front .1 .1 .1 .1) (links-pass lines n (some (v .number)) (drop 18 rest) back)
 
-table-passes : (file : List ℕ) → FilePasses file → Passes (tableIn file)
+table-passes : (file : List ℕ) → FilePasses file → tableRefusal (tableIn file) ≡ 0
 unfolding tableIn countRecordChecks sizesRecordChecks headerChecks
 table-passes file p =
-    record {
-      counts = rw length-linksIn (p .counts .1 .1 .1);
-      links = links-pass (numberAt 4 2 file) (numberAt 6 2 file) none (drop 8 file) (p .links);
-      sizes = (p .sizes .1 .1 .1 .0, tt);
-    }
+    parts-unmet (tableIn file) (rw length-linksIn (p .counts .1 .1 .1)) (links-pass (numberAt 4 2 file) (numberAt 6 2 file) none (drop 8 file) (p .links))
+    (p .sizes .1 .1 .1 .0, tt)
 
 -- a table that is read passes the checks of tables
 pub read-passes : (file : List ℕ) → readTable file .refused ≡ 0 → tableRefusal (readTable file .table) ≡ 0
 read-passes file e =
     let pass = read-none-met file e in
-    rw (none-met-read file pass) (passes-refusal (tableIn file) (table-passes file (file-passes file pass)))
+    rw (none-met-read file pass) (table-passes file (file-passes file pass))

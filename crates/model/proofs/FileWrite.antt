@@ -11,25 +11,26 @@ use lib.ListN.{length, drop, length-append, drop-of-length-le}
 use Rattle.model.specs.Basics.{check}
 use Rattle.model.specs.Link.{VirtualLink}
 use Rattle.model.specs.Table.{Table, countChecks, linkChecks, sizeChecks, tableRefusal}
+use Rattle.model.specs.Digits.{digitsOf}
 use Rattle.model.specs.TableFile.{toBytes, numberAt, recordBytes, countsBody, linkBody, sizesBody, tableBytes, fileLength, headerChecks, linkRead, sizesRead, readTable, countRecordChecks, linkRecordChecks, sizesRecordChecks}
 use Rattle.model.proofs.Lists.{length-flatMap}
 use Rattle.model.proofs.Bytes.{AllBytes, length-toBytes, from-toBytes, all-drop, number-bytes, numbers-bytes}
 use Rattle.model.proofs.Checks.{NoneMet, none-front, none-back}
-use Rattle.model.proofs.TableFacts.{sizes-fit, passes}
+use Rattle.model.proofs.Passing.{is-passing}
 use Rattle.model.proofs.FileRead.{linksIn, behindLinks, tableIn, linkRecordsChecks, file-passes, length-linksIn, read-none-met, none-met-read}
 
 -- ---- lengths
 
 pub length-record : (kind : ℕ) (body : List ℕ) → length (recordBytes kind body) ≡ 4 + length body
-unfolding recordBytes toBytes
+unfolding recordBytes digitsOf
 length-record kind body = omega arith
 
 pub length-countsBody : (lines n : ℕ) → length (countsBody lines n) ≡ 4
-unfolding countsBody toBytes
+unfolding countsBody digitsOf
 length-countsBody lines n = refl
 
 pub length-linkBody : (v : VirtualLink) → length (linkBody v) ≡ 14
-unfolding linkBody toBytes
+unfolding linkBody digitsOf
 length-linkBody v = refl
 
 pub length-sizesBody : (sizes : List ℕ) → length (sizesBody sizes) ≡ 4 * length sizes
@@ -44,7 +45,7 @@ length-tableBytes t e =
 
 -- "A file has 44 + 18 × n bytes"
 pub written-length : (t : Table) → tableRefusal t ≡ 0 → length (tableBytes t) ≡ fileLength t
-written-length t e = length-tableBytes t (sizes-fit (t .sizes) (passes t e .sizes) .count)
+written-length t e = length-tableBytes t (is-passing t e .sizes .count)
 
 -- ---- the header of a record
 
@@ -74,7 +75,7 @@ fits-header kind len rest fits = (
 
 -- a record that is written has the header that is due
 pub record-header : (kind len : ℕ) (body rest : List ℕ) → 2 + length body ≡ len → kind < 65_536 → len < 65_536 → HeaderFits kind len (recordBytes kind body ++ rest)
-unfolding recordBytes toBytes
+unfolding recordBytes digitsOf
 record-header kind len body rest e k l =
     record { header = omega arith; length-due = from-toBytes 2 (2 + length body) (omega arith) ∙ e; kind-due = from-toBytes 2 kind k; body = rw length-append (omega arith) }
 

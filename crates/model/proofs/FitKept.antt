@@ -16,7 +16,7 @@ use Rattle.model.specs.Report.{Report, Judged, replenished, charged, sto
 use Rattle.model.specs.Promises.{FitnessKept, LengthsKept}
 use Rattle.model.proofs.Checks.{all-true}
 use Rattle.model.proofs.Gate.{renewed, reduced}
-use Rattle.model.proofs.ValidTable.{Valid, valid}
+use Rattle.model.proofs.Passing.{Passing, is-passing}
 use Rattle.model.proofs.QueueSteps.{advance-clock}
 use Rattle.model.proofs.Stepping.{Judgement, filters, polices, drops, stores, Timely, Arrives, movedTo, reached, policedPort, chargedPort, Stepping, refuses, waits, frames, stepping}
 use Rattle.model.proofs.Lined.{Lined, over}
@@ -85,7 +85,7 @@ fit-whole t s k eight marks =
     go q (yes l) = rw (List·getD-eq-default (s .scheduler .queues) [] {n = q} (omega arith)) over
     go q (no l) = k .lined q (omega arith)
 
-module _ (t : Table) (v : Valid t) (s : Port) (k : InOrder t s) where
+module _ (t : Table) (v : Passing t) (s : Port) (k : InOrder t s) where
   module _ (time : ℕ) (timely : Timely s time) where
     there : advance time (s .scheduler) .scheduler .clock ≡ time
     there = advance-clock time (s .scheduler) (timely .from)
@@ -123,7 +123,7 @@ pub fitness-kept : FitnessKept
 unfolding fit
 fitness-kept t s c queues marks e =
     let passes : tableRefusal t ≡ 0 = eqb-true (tableRefusal t) 0 (all-true _ e .0) in
-    let w : InOrder t (step t s c .port) = step-whole t (valid t passes) s (fit-whole t s (fit-is t s e) queues marks) (c .list) (stepping t s (c .list) (c .report)) in
+    let w : InOrder t (step t s c .port) = step-whole t (is-passing t passes) s (fit-whole t s (fit-is t s e) queues marks) (c .list) (stepping t s (c .list) (c .report)) in
     (ordered-fit t passes (step t s c .port) (w .ordered) (w .gate), w .ordered .sound .eight, w .ordered .eight)
 
 -- ---- the number of marks, line ticks and accounts

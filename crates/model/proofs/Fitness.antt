@@ -23,7 +23,7 @@ use Rattle.model.proofs.Checks.{all-true, true-all, all-to, to-all}
 use Rattle.model.proofs.Curves.{occupied-weight}
 use Rattle.model.proofs.TokenBucket.{credit-top}
 use Rattle.model.proofs.Gate.{Good}
-use Rattle.model.proofs.ValidTable.{Valid, valid}
+use Rattle.model.proofs.Passing.{Passing, is-passing}
 use Rattle.model.proofs.BusyPeriod.{SendsInTime, Meets, Sound}
 use Rattle.model.proofs.FramesFreed.{ticks-count}
 use Rattle.model.proofs.Refusals.{refusal-apart}
@@ -59,10 +59,10 @@ module _ (t : Table) (passes : tableRefusal t ≡ 0) (s : Port) (k : Ordered t s
   few p l =
       omega (
         arith,
-        lined-count t p (s .scheduler .clock) 0 (queueOf (s .scheduler .queues) p) (valid t passes) (k .lined p),
+        lined-count t p (s .scheduler .clock) 0 (queueOf (s .scheduler .queues) p) (is-passing t passes) (k .lined p),
         k .below p l,
         k .within p l,
-        valid t passes .sizes-most p,
+        is-passing t passes .sizes .most p,
       )
 
   -- a port in order, its gate fit, is fit
@@ -126,7 +126,7 @@ step-apart t s c e x =
 
 module _ (t : Table) (passes : tableRefusal t ≡ 0) where
   run-fit : (calls : List Call) → fit t (run t calls .port) ≡ true
-  run-fit calls = kept-fit t passes (run t calls .port) (run t calls .log) (run-kept t (valid t passes) calls)
+  run-fit calls = kept-fit t passes (run t calls .port) (run t calls .log) (run-kept t (is-passing t passes) calls)
 
   run-apart : (calls : List Call) → Always (λ e log. e .answer .refused ≡ 10 → ⊥) (run t calls .log)
   unfolding run
@@ -138,7 +138,7 @@ never-unfit t passes calls = (run-fit t passes calls, run-apart t passes calls)
 
 -- ---- what a fit port is
 pub record FitPort (t : Table) (s : Port) : Type 0 where
-  pub table : Valid t
+  pub table : Passing t
   pub early : s .scheduler .clock ≤ lastTick
   pub few : (p : ℕ) → p < 8 → length (queueOf (s .scheduler .queues) p) ≤ mostFrames
   pub lined : (p : ℕ) → p < 8 → Lined t p (s .scheduler .clock) 0 (queueOf (s .scheduler .queues) p)
@@ -152,7 +152,7 @@ unfolding fit
 fit-is t s e =
     let all = all-true _ e in
     record {
-      table = valid t (eqb-true (tableRefusal t) 0 (all .0));
+      table = is-passing t (eqb-true (tableRefusal t) 0 (all .0));
       early = leb-true (s .scheduler .clock) lastTick (all .1 .0);
       few = λ p l. leb-true _ _ (all-to (λ q. leb (length (queueOf (s .scheduler .queues) q)) mostFrames) 8 (all .1 .1 .0) p l);
       lined =

@@ -1,5 +1,5 @@
 -- The hold is the smallest, or there is none; by climbing; and of a table that has bounds each priority has one.
-use mathlib.Core.Path.{_≡_, refl, sym, ap, _∙_}
+use mathlib.Core.Path.{_≡_, refl, sym, _∙_}
 use mathlib.Core.Bool.{Bool, true, false, not}
 use mathlib.Core.Option.{Option, none, some}
 use mathlib.Core.List.{List, [], _∷_, _++_}
@@ -11,11 +11,11 @@ use lib.Dec.{T, leb, leb→le}
 use borrow.Author.Tests.{leb-true, leb-false, le-leb, lt-leb, not-false}
 use Rattle.model.specs.Basics.{allTo, Check, check, firstMet}
 use Rattle.model.specs.Table.{Table, tableChecks, tableRefusal}
-use Rattle.model.specs.Bounds.{upTo, upArrivals, blocking, holdTest, holdOf, isThere, orZero, boundsRefusal, hold}
-use Rattle.model.specs.Promises.{IsHold, HoldIsSmallest}
+use Rattle.model.specs.Bounds.{upTo, upArrivals, blocking, holdTest, holdBy, holdOf, isThere, orZero, boundsRefusal, hold}
+use Rattle.model.specs.Promises.{IsHold, HoldIsSmallest, HoldGrows}
 use Rattle.model.proofs.Checks.{all-to, to-all, first-past, none-met, numbered-append, none-front, none-back, first-none, NoneMet}
 use Rattle.model.proofs.TableFacts.{table-numbered}
-use Rattle.model.proofs.Search.{IsFirst, found-first, found-none, is-first, is-none, climb, climb-below}
+use Rattle.model.proofs.Search.{IsFirst, found-first, found-none, first-sooner, is-first, is-none, climb, climb-below}
 use Rattle.model.proofs.Curves.{curve-grows}
 
 pub up-grows : (t : Table) (p x y : ℕ) → x ≤ y → upArrivals t p x ≤ upArrivals t p y
@@ -23,9 +23,9 @@ unfolding upArrivals
 up-grows t p x y l = curve-grows (λ n. n) (upTo p) (t .lines) (t .links) x y l
 
 pub hold-is : (t : Table) (p w : ℕ) → holdOf t p ≡ some w → IsHold t p w
-unfolding holdOf holdTest
+unfolding holdOf holdBy holdTest
 hold-is t p w e =
-    let r : IsFirst (holdTest t p) 65_536 1 w = found-first (holdTest t p) 65_536 1 w e in
+    let r : IsFirst (holdTest (blocking t p) (upArrivals t p)) 65_536 1 w = found-first (holdTest (blocking t p) (upArrivals t p)) 65_536 1 w e in
     record {
       least-is = r .from;
       most-is = omega arith;
@@ -34,8 +34,23 @@ hold-is t p w e =
     }
 
 pub hold-smallest : HoldIsSmallest
-unfolding holdOf holdTest
-hold-smallest t p = (hold-is t p, λ e w l m. leb-false _ _ (found-none (holdTest t p) 65_536 1 e w l (omega arith)))
+unfolding holdOf holdBy holdTest
+hold-smallest t p = (hold-is t p, λ e w l m. leb-false _ _ (found-none (holdTest (blocking t p) (upArrivals t p)) 65_536 1 e w l (omega arith)))
+
+-- ---- of two tables: what passes the test with the greater b and A passes it with the smaller
+pub hold-grows : HoldGrows
+unfolding holdBy holdTest
+hold-grows b b' up up' l m = (sooner, λ e. go e (holdBy b' up') refl)
+  where
+    passes : (w : ℕ) → leb (b' + up' (w - 1)) w ≡ true → leb (b + up (w - 1)) w ≡ true
+    passes w e = le-leb (b + up (w - 1)) w (omega (arith, leb-true (b' + up' (w - 1)) w e, m (w - 1)))
+
+    sooner : (h' : ℕ) → holdBy b' up' ≡ some h' → (h : ℕ) × (holdBy b up ≡ some h) × (h ≤ h')
+    sooner h' e = first-sooner (holdTest b up) (holdTest b' up') passes 65_536 1 h' e
+
+    go : holdBy b up ≡ none → (o : Option ℕ) → holdBy b' up' ≡ o → holdBy b' up' ≡ none
+    go e none x = x
+    go e (some h') x = absurd (let z : _≡_ {A = ℕ} 0 1 = let y : _≡_ {A = Option ℕ} none (some (sooner h' x .0)) = sym e ∙ sooner h' x .1 in cc in omega arith)
 
 -- ---- by climbing
 climbs-past : (t : Table) (p n k : ℕ) → 1 ≤ k → k < climb (upArrivals t p) (blocking t p) n 1 → k < blocking t p + upArrivals t p (k - 1)
@@ -47,9 +62,9 @@ climbs-past t p n k l m = go (decLe (blocking t p + upArrivals t p (k - 1)) k)
 
 pub climbed : (t : Table) (p n w : ℕ) → climb (upArrivals t p) (blocking t p) n 1 ≡ w → T (leb 1 w) → T (leb w 65_536)
     → T (leb (blocking t p + upArrivals t p (w - 1)) w) → holdOf t p ≡ some w
-unfolding holdOf holdTest
+unfolding holdOf holdBy holdTest
 climbed t p n w e a b c =
-    is-first (holdTest t p) 65_536 1 w
+    is-first (holdTest (blocking t p) (upArrivals t p)) 65_536 1 w
     (record {
       from = leb→le _ _ a;
       below = omega (arith, leb→le w 65_536 b);
@@ -58,9 +73,9 @@ climbed t p n w e a b c =
     })
 
 pub climbed-past : (t : Table) (p n : ℕ) → T (leb 65_537 (climb (upArrivals t p) (blocking t p) n 1)) → holdOf t p ≡ none
-unfolding holdOf holdTest
+unfolding holdOf holdBy holdTest
 climbed-past t p n a =
-    is-none (holdTest t p) 65_536 1
+    is-none (holdTest (blocking t p) (upArrivals t p)) 65_536 1
     (λ k l m. lt-leb _ _ (climbs-past t p n k l (omega (arith, leb→le 65_537 (climb (upArrivals t p) (blocking t p) n 1) a))))
 
 -- ---- of a table that has bounds
@@ -89,8 +104,8 @@ has-bounds t e =
 
     pass : NoneMet (tableChecks t ++ (check 8 (not (allTo (λ p. isThere (holdOf t p)) 8)) ∷ []))
     pass =
-        none-met 8 (tableChecks t ++ (check 8 (not (allTo (λ p. isThere (holdOf t p)) 8)) ∷ []))
-        (numbered-append 8 (tableChecks t) (check 8 (not (allTo (λ p. isThere (holdOf t p)) 8)) ∷ []) (table-numbered 8 (omega arith) t) (omega arith)) e
+        none-met (tableChecks t ++ (check 8 (not (allTo (λ p. isThere (holdOf t p)) 8)) ∷ []))
+        (numbered-append (tableChecks t) (check 8 (not (allTo (λ p. isThere (holdOf t p)) 8)) ∷ []) (table-numbered t) (omega arith)) e
 
 -- ---- the refusal from the holds
 not-all : (test : ℕ → Bool) (n k : ℕ) → k < n → test k ≡ false → allTo test n ≡ false
@@ -103,7 +118,7 @@ not-all test n k l e = go (allTo test n) refl
 module _ (t : Table) (passes : tableRefusal t ≡ 0) where
   past-table : boundsRefusal t ≡ firstMet (check 8 (not (allTo (λ p. isThere (holdOf t p)) 8)) ∷ [])
   unfolding boundsRefusal tableRefusal
-  past-table = first-past (tableChecks t) _ (none-met 6 (tableChecks t) (table-numbered 6 (omega arith) t) passes)
+  past-table = first-past (tableChecks t) _ (none-met (tableChecks t) (table-numbered t) passes)
 
   pub no-hold : (p : ℕ) → p < 8 → holdOf t p ≡ none → boundsRefusal t ≡ 8
   unfolding firstMet isThere

@@ -27,7 +27,7 @@ use Rattle.model.proofs.Checks.{true-all}
 use Rattle.model.proofs.Curves.{greatest-ge}
 use Rattle.model.proofs.Passed.{Passed}
 use Rattle.model.proofs.Gate.{mem-at, renewed, reduced, Good, later-good, raise-good, police-good, pass-good, fresh-good}
-use Rattle.model.proofs.ValidTable.{Valid}
+use Rattle.model.proofs.Passing.{Passing}
 use Rattle.model.proofs.BusyPeriod.{SendsInTime, Meets, Sound, put-bytes}
 use Rattle.model.proofs.BusySteps.{stored-sound}
 use Rattle.model.proofs.QueueSteps.{advance-keeps, advance-sound, advance-clock, held-tail}
@@ -80,7 +80,7 @@ moved-ordered t s time timely k =
     there = advance-clock time (s .scheduler) (timely .from)
 
 -- ---- a frame is stored
-module _ (t : Table) (valid : Valid t) (s : Port) (k : Ordered t s) (time line number len i : ℕ) (clock : s .scheduler .clock ≡ time) (long : 84 ≤ len) (a : Admitted t line number len i) where
+module _ (t : Table) (valid : Passing t) (s : Port) (k : Ordered t s) (time line number len i : ℕ) (clock : s .scheduler .clock ≡ time) (long : 84 ≤ len) (a : Admitted t line number len i) where
   abbrev p : ℕ
   p = priorityAt t i
 
@@ -148,7 +148,7 @@ module _ (t : Table) (valid : Valid t) (s : Port) (k : Ordered t s) (time line n
       high q m (no n) = rw (getD-set-other (s .marks), n) (k .within q m)
 
 -- ---- a report
-module _ (t : Table) (valid : Valid t) (s : Port) (log : List Entry) (k : Invariant t s log) where
+module _ (t : Table) (valid : Passing t) (s : Port) (log : List Entry) (k : Invariant t s log) where
   module _ (time : ℕ) (timely : Timely s time) where
     there : advance time (s .scheduler) .scheduler .clock ≡ time
     there = advance-clock time (s .scheduler) (timely .from)
@@ -234,7 +234,7 @@ fresh-kept t =
     }
 
 -- ---- every list of reports
-pub run-kept : (t : Table) → Valid t → (calls : List Call) → Invariant t (run t calls .port) (run t calls .log)
+pub run-kept : (t : Table) → Passing t → (calls : List Call) → Invariant t (run t calls .port) (run t calls .log)
 unfolding run
 run-kept t v [] = fresh-kept t
 run-kept t v (c ∷ calls) = step-kept t v (run t calls .port) (run t calls .log) (run-kept t v calls) (c .list) (stepping t (run t calls .port) (c .list) (c .report))

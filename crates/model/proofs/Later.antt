@@ -21,7 +21,7 @@ use Rattle.model.proofs.Holds.{HasBounds, has-bounds}
 use Rattle.model.proofs.Curves.{occupied-weight}
 use Rattle.model.proofs.Gate.{numbers-apart, renewed, reduced, after-set, full-at}
 use Rattle.model.proofs.Keeping.{Spent, spent-start, spent-policed, spent-charged}
-use Rattle.model.proofs.ValidTable.{Valid, valid}
+use Rattle.model.proofs.Passing.{Passing, is-passing}
 use Rattle.model.proofs.BusyPeriod.{Sound}
 use Rattle.model.proofs.Backlog.{level-hold}
 use Rattle.model.proofs.Departures.{ticks-leaving, FreeFrom, ticks-apart}
@@ -87,7 +87,7 @@ module _ (t : Table) (s : Port) (ds : List Departure) (sound : Sound (longest t)
   step-sparse list (frames time line number len timely arrives {j = j} x) =
       rw (departures-taken (frame time line number len) (j .verdict) (freedBy s time) list) (judged-sparse time line number len x)
 
-run-sparse : (t : Table) → Valid t → (calls : List Call) → Sparse (allDepartures (run t calls .log)) (run t calls .port .scheduler)
+run-sparse : (t : Table) → Passing t → (calls : List Call) → Sparse (allDepartures (run t calls .log)) (run t calls .port .scheduler)
 unfolding run allDepartures fresh FreeFrom
 run-sparse t v [] = record { last = 0; spaced = λ more x. x; free = le-refl 0 }
 run-sparse t v (c ∷ calls) =
@@ -95,13 +95,13 @@ run-sparse t v (c ∷ calls) =
     (stepping t (run t calls .port) (c .list) (c .report))
 
 pub departures-spaced : DeparturesSpaced
-departures-spaced t e calls = rw append-nil at (run-sparse t (valid t e) calls .spaced [] over)
+departures-spaced t e calls = rw append-nil at (run-sparse t (is-passing t e) calls .spaced [] over)
 
 -- ---- the passed frames of a link keep BAG and jitter
 abbrev Metered : Table → List Account → List Entry → Type 0
 Metered t accounts log = (i : ℕ) → i < length (t .links) → Spent (linkAt (t .links) i) (ticksOf passedBy (linkAt (t .links) i .number) log) (accountAt accounts i)
 
-module _ (t : Table) (v : Valid t) (s : Port) (log : List Entry) (inv : Invariant t s log) (k : Metered t (s .gate .accounts) log) where
+module _ (t : Table) (v : Passing t) (s : Port) (log : List Entry) (inv : Invariant t s log) (k : Metered t (s .gate .accounts) log) where
   none-passes : (e : Entry) → passedBy e ≡ none → Metered t (s .gate .accounts) (e ∷ log)
   none-passes e x i l = rw (ticks-none passedBy (linkAt (t .links) i .number) e log x) (k i l)
 
@@ -152,11 +152,11 @@ module _ (t : Table) (v : Valid t) (s : Port) (log : List Entry) (inv : Invarian
   step-metered list (waits time timely) = none-passes (taken (wait time) 0 (freedBy s time) list) refl
   step-metered list (frames time line number len timely arrives x) = judged-metered time line number len timely list x
 
-run-metered : (t : Table) → Valid t → (calls : List Call) → Metered t (run t calls .port .gate .accounts) (run t calls .log)
+run-metered : (t : Table) → Passing t → (calls : List Call) → Metered t (run t calls .port .gate .accounts) (run t calls .log)
 unfolding run fresh ticksOf
 run-metered t v [] = λ i l. rw (full-at (t .links) i l) (spent-start (linkAt (t .links) i))
 run-metered t v (c ∷ calls) =
     step-metered t v (run t calls .port) (run t calls .log) (run-kept t v calls) (run-metered t v calls) (c .list) (stepping t (run t calls .port) (c .list) (c .report))
 
 pub passed-keep : PassedKeep
-passed-keep t e calls i l = run-metered t (valid t e) calls i l .keeping
+passed-keep t e calls i l = run-metered t (is-passing t e) calls i l .keeping

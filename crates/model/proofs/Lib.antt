@@ -3,16 +3,18 @@
 -- ---- lists, entries before a count, bytes, checks
 pub mod Lists
 pub mod Entries
+pub mod Digits
 pub mod Bytes
 pub mod Checks
 -- ---- tables that pass, table files
 pub mod TableFacts
-pub mod ValidTable
+pub mod Passing
 pub mod FileRead
 pub mod FileWrite
 pub mod ReadBack
--- ---- searches, arrival curves, holds and bounds
+-- ---- searches, BAGs, arrival curves, holds and bounds
 pub mod Search
+pub mod Bags
 pub mod Curves
 pub mod Holds
 pub mod BoundFacts

@@ -3,7 +3,7 @@ use mathlib.Core.Path.{_≡_, refl}
 use mathlib.Core.Bool.{true}
 use mathlib.Core.Option.{Option, none, some}
 use mathlib.Core.List.{List, [], _∷_, _++_}
-use Prim.Native.Nat.{ℕ, _+_, _*_, _≤_}
+use Prim.Native.Nat.{ℕ, _*_, _≤_}
 use native.Mathlib.Nat.{le-trans}
 use native.Mathlib.Omega.{arith}
 use borrow.Author.Tests.{leb-true, le-leb}
@@ -20,7 +20,7 @@ use Rattle.model.proofs.Curves.{occupied-weight, greatest-ge}
 use Rattle.model.proofs.Gate.{mem-at}
 use Rattle.model.proofs.BusyPeriod.{Meets}
 use Rattle.model.proofs.Stepping.{Placed, placed}
-use Rattle.model.proofs.ValidTable.{Valid}
+use Rattle.model.proofs.Passing.{Passing}
 
 pub data Lined (t : Table) (q c : ℕ) : ℕ → List Frame → Type 0 where
   over : {low : ℕ} → Lined t q c low []
@@ -63,7 +63,7 @@ pub record NamedFrame (t : Table) (q len : ℕ) : Type 0 where
   pub long : 84 ≤ len
   pub short : len ≤ longest t q
 
-pub named : (t : Table) (q n len : ℕ) → Valid t → namesLink t q len (placeOf n (t .links)) ≡ true → NamedFrame t q len
+pub named : (t : Table) (q n len : ℕ) → Passing t → namesLink t q len (placeOf n (t .links)) ≡ true → NamedFrame t q len
 unfolding namesLink longest ofPriority
 named t q n len v e = go (placeOf n (t .links)) refl e
   where
@@ -80,13 +80,13 @@ named t q n len v e = go (placeOf n (t .links)) refl e
         }
 
 -- a frame has at least 84 bytes
-pub lined-count : (t : Table) (q c low : ℕ) (l : List Frame) → Valid t → Lined t q c low l → occupied 84 * length l ≤ held l
+pub lined-count : (t : Table) (q c low : ℕ) (l : List Frame) → Passing t → Lined t q c low l → occupied 84 * length l ≤ held l
 unfolding bytes
 lined-count t q c low [] v over = omega arith
 lined-count t q c low (f ∷ l) v (next n a b r) =
     omega (arith, lined-count t q c (f .arrival) l v r, occupied-weight .grows 84 (f .length) (named t q (f .number) (f .length) v n .long))
 
-pub lined-meets : (t : Table) (q c low : ℕ) (l : List Frame) → Valid t → Lined t q c low l → Each (Meets (longest t q) c) l
+pub lined-meets : (t : Table) (q c low : ℕ) (l : List Frame) → Passing t → Lined t q c low l → Each (Meets (longest t q) c) l
 lined-meets t q c low [] v over = done
 lined-meets t q c low (f ∷ l) v (next n a b r) =
     let m : NamedFrame t q (f .length) = named t q (f .number) (f .length) v n in

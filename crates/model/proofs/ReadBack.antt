@@ -12,11 +12,13 @@ use lib.Seq.{ext-getD, drop-drop}
 use Rattle.model.specs.Basics.{check}
 use Rattle.model.specs.Link.{VirtualLink}
 use Rattle.model.specs.Table.{Table, countChecks, fieldsInRange, linkChecks, linksChecks, sizeChecks, tableRefusal}
-use Rattle.model.specs.TableFile.{toBytes, numberAt, recordBytes, countsBody, linkBody, sizesBody, tableBytes, headerChecks, linkRead, sizesRead, readTable, countRecordChecks, linkRecordChecks, sizesRecordChecks}
+use Rattle.model.specs.Digits.{digitsOf}
+use Rattle.model.specs.TableFile.{numberAt, recordBytes, countsBody, linkBody, sizesBody, tableBytes, headerChecks, linkRead, sizesRead, readTable, countRecordChecks, linkRecordChecks, sizesRecordChecks}
 use Rattle.model.proofs.Lists.{getD-eight}
 use Rattle.model.proofs.Bytes.{from-toBytes, number-among}
 use Rattle.model.proofs.Checks.{NoneMet, none-append, none-front, none-back}
-use Rattle.model.proofs.TableFacts.{FieldsFit, fields-fit, SizesFit, sizes-fit, passes, passes-counts}
+use Rattle.model.proofs.TableFacts.{FieldsFit, fields-fit, SizesFit, sizes-fit, counts-unmet, links-unmet, sizes-unmet}
+use Rattle.model.proofs.Passing.{is-passing}
 use Rattle.model.proofs.FileRead.{linksIn, behindLinks, tableIn, linkRecordsChecks, FilePasses, passes-file, none-met-read}
 use Rattle.model.proofs.FileWrite.{length-record, length-countsBody, length-linkBody, length-sizesBody, HeaderFits, fits-header, record-header}
 
@@ -24,15 +26,15 @@ use Rattle.model.proofs.FileWrite.{length-record, length-countsBody, le
 
 module _ (lines n : ℕ) (rest : List ℕ) where
   lines-back : lines < 65_536 → numberAt 4 2 (recordBytes 1 (countsBody lines n) ++ rest) ≡ lines
-  unfolding recordBytes countsBody toBytes
+  unfolding recordBytes countsBody digitsOf
   lines-back h = from-toBytes 2 lines h
 
   count-back : n < 65_536 → numberAt 6 2 (recordBytes 1 (countsBody lines n) ++ rest) ≡ n
-  unfolding recordBytes countsBody toBytes
+  unfolding recordBytes countsBody digitsOf
   count-back h = from-toBytes 2 n h
 
   behind-counts : drop 8 (recordBytes 1 (countsBody lines n) ++ rest) ≡ rest
-  unfolding recordBytes countsBody toBytes
+  unfolding recordBytes countsBody digitsOf
   behind-counts = refl
 
   counts-back : lines < 65_536 → n < 65_536 → NoneMet (countChecks lines n) → NoneMet (countRecordChecks (recordBytes 1 (countsBody lines n) ++ rest))
@@ -47,7 +49,7 @@ module _ (lines n : ℕ) (rest : List ℕ) where
 
 module _ (v : VirtualLink) (rest : List ℕ) where
   link-back : (lines : ℕ) → lines ≤ 256 → FieldsFit lines v → linkRead (recordBytes 2 (linkBody v) ++ rest) ≡ v
-  unfolding linkRead recordBytes linkBody toBytes
+  unfolding linkRead recordBytes linkBody digitsOf
   link-back lines h fit = λ i.
       record {
         number = from-toBytes 2 (v .number) (omega arith) i;
@@ -60,11 +62,11 @@ module _ (v : VirtualLink) (rest : List ℕ) where
       }
 
   zero-back : numberAt 9 1 (recordBytes 2 (linkBody v) ++ rest) ≡ 0
-  unfolding recordBytes linkBody toBytes
+  unfolding recordBytes linkBody digitsOf
   zero-back = from-toBytes 1 0 (omega arith)
 
   behind-link : drop 18 (recordBytes 2 (linkBody v) ++ rest) ≡ rest
-  unfolding recordBytes linkBody toBytes
+  unfolding recordBytes linkBody digitsOf
   behind-link = refl
 
   link-record-back : (lines : ℕ) (previous : Option ℕ) → lines ≤ 256 → NoneMet (linkChecks lines previous v) → NoneMet (linkRecordChecks lines previous (recordBytes 2 (linkBody v) ++ rest))
@@ -105,7 +107,7 @@ links-back lines previous (v ∷ links) rest h pass =
 -- ---- sizes
 
 behind-header : (kind : ℕ) (body : List ℕ) → drop 4 (recordBytes kind body) ≡ body
-unfolding recordBytes toBytes
+unfolding recordBytes digitsOf
 behind-header kind body = refl
 
 size-back : (sizes : List ℕ) (p : ℕ) → p < length sizes → getD sizes p 0 ≤ 16_384 → numberAt (4 + 4 * p) 4 (recordBytes 3 (sizesBody sizes)) ≡ getD sizes p 0
@@ -134,8 +136,8 @@ sizes-record-back sizes pass =
 pub read-written : (t : Table) → tableRefusal t ≡ 0 → readTable (tableBytes t) ≡ record { refused = 0; table = t }
 unfolding tableBytes tableIn
 read-written t e =
-    let p = passes t e in
-    let fit = passes-counts t p in
+    let p = is-passing t e in
+    let fit = p .counts in
     let lines = t .lines in
     let n = length (t .links) in
     let last = recordBytes 3 (sizesBody (t .sizes)) in
@@ -144,11 +146,11 @@ read-written t e =
     let l : numberAt 4 2 file ≡ lines = lines-back lines n rest (omega arith) in
     let c : numberAt 6 2 file ≡ n = count-back lines n rest (omega arith) in
     let b : drop 8 file ≡ rest = behind-counts lines n rest in
-    let links = links-back lines none (t .links) last (omega arith) (p .links) in
+    let links = links-back lines none (t .links) last (omega arith) (links-unmet t e) in
     let parts : FilePasses file =
     record {
-      counts = counts-back lines n rest (omega arith) (omega arith) (p .counts);
+      counts = counts-back lines n rest (omega arith) (omega arith) (counts-unmet t e);
       links = rw (l, c, b) (links .pass);
-      sizes = rw (c, b, links .behind-is) (sizes-record-back (t .sizes) (p .sizes));
+      sizes = rw (c, b, links .behind-is) (sizes-record-back (t .sizes) (sizes-unmet t e));
     } in
-    rw append-assoc (none-met-read file (passes-file file parts) ∙ rw (l, c, b, links .links-are, links .behind-is, sizes-back (t .sizes) (sizes-fit (t .sizes) (p .sizes))))
+    rw append-assoc (none-met-read file (passes-file file parts) ∙ rw (l, c, b, links .links-are, links .behind-is, sizes-back (t .sizes) (p .sizes)))

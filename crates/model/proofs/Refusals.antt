@@ -14,7 +14,7 @@ use Rattle.model.proofs.Checks.{first-here, first-later, Numbered, Apar
 
 -- ---- 11 to 15, by the clock, the line count and the line ticks
 module _ (clock lines : ℕ) (ticks : List ℕ) where
-  pub checks-numbered : (r : Report) → Numbered 15 (reportChecks clock lines ticks r)
+  pub checks-numbered : (r : Report) → Numbered (reportChecks clock lines ticks r)
   unfolding reportChecks frameChecks
   checks-numbered (wait time) = omega arith
   checks-numbered (frame time line number len) = omega arith
@@ -41,7 +41,7 @@ module _ (t : Table) (s : Port) (r : Report) (room : ℕ) where
   unfolding reportRefusal allChecks
   refusal-fit e =
       first-later (fitCheck t s) (those ++ (last ∷ [])) (rw e)
-      ∙ first-append 15 those (last ∷ []) (checks-numbered (s .scheduler .clock) (t .lines) (s .gate .lineTicks) r)
+      ∙ first-append those (last ∷ []) (checks-numbered (s .scheduler .clock) (t .lines) (s .gate .lineTicks) r)
 
   -- a fit port is not refused with 10
   pub refusal-apart : fit t s ≡ true → reportRefusal t s r room ≡ 10 → ⊥
@@ -53,8 +53,8 @@ module _ (t : Table) (s : Port) (r : Report) (room : ℕ) where
   -- a report that is not refused meets none
   pub unrefused : reportRefusal t s r room ≡ 0 → NoneMet (allChecks t s r room)
   unfolding reportRefusal allChecks reportChecks frameChecks
-  unrefused e = none-met 16 (allChecks t s r room) (go r) e
+  unrefused e = none-met (allChecks t s r room) (go r) e
     where
-      go : (x : Report) → Numbered 16 (allChecks t s x room)
+      go : (x : Report) → Numbered (allChecks t s x room)
       go (wait time) = omega arith
       go (frame time line number len) = omega arith

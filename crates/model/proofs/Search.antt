@@ -1,5 +1,5 @@
 -- Searches: the first number that passes a test, the greatest of a function, and climbing to a fixed point.
-use mathlib.Core.Path.{_≡_, refl}
+use mathlib.Core.Path.{_≡_, refl, sym, _∙_}
 use mathlib.Core.Logic.{inl, inr}
 use mathlib.Core.Bool.{Bool, true, false}
 use mathlib.Core.Option.{Option, none, some}
@@ -42,6 +42,20 @@ found-none p (suc n) a e k l m = go (p a) refl (found-none p n (suc a))
     go : (b : Bool) → p a ≡ b → (firstFrom p n (suc a) ≡ none → (j : ℕ) → suc a ≤ j → j < suc a + n → p j ≡ false) → p k ≡ false
     go true q ih = absurd (let z : _≡_ {A = ℕ} 0 1 = let y : _≡_ {A = Option ℕ} (some a) none = rw q at e in cc in omega arith)
     go false q ih = elim (eq-or-lt-of-le l) [ inl x ↦ rw (← x) q | inr x ↦ ih (rw q at e) k x (omega arith) ]
+
+-- a test that holds wherever another does is passed no later
+pub first-sooner : (p q : ℕ → Bool) → ((k : ℕ) → q k ≡ true → p k ≡ true) → (n a w : ℕ) → firstFrom q n a ≡ some w → (v : ℕ) × (firstFrom p n a ≡ some v) × (v ≤ w)
+first-sooner p q h n a w e = go (firstFrom p n a) refl
+  where
+    late : IsFirst q n a w
+    late = found-first q n a w e
+
+    clash : p w ≡ false → ⊥
+    clash x = let z : _≡_ {A = ℕ} 0 1 = let y : true ≡ false = sym (h w (late .holds)) ∙ x in cc in omega arith
+
+    go : (o : Option ℕ) → firstFrom p n a ≡ o → (v : ℕ) × (firstFrom p n a ≡ some v) × (v ≤ w)
+    go none x = absurd (clash (found-none p n a x w (late .from) (late .below)))
+    go (some v) x = (v, x, elim (decLe v w) [ yes l ↦ l | no l ↦ absurd (clash (found-first p n a v x .before w (late .from) (omega arith))) ])
 
 -- the other way: what is first is what the search finds
 pub is-first : (p : ℕ → Bool) (n a w : ℕ) → IsFirst p n a w → firstFrom p n a ≡ some w

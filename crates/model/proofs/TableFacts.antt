@@ -1,13 +1,14 @@
--- What a table that meets no check is.
+-- The ranges of counts, fields and sizes as facts, and the checks of a table by parts.
 use mathlib.Core.Path.{_≡_}
 use mathlib.Core.Bool.{true, _&&_, and-eq-true-iff}
 use mathlib.Core.Option.{Option, none, some}
 use mathlib.Core.List.{List, [], _∷_, _++_}
 use Prim.Native.Nat.{ℕ, zero, suc, _≤_, _<_}
 use native.Mathlib.Omega.{arith}
-use lib.Dec.{eqb, leb, ltb}
+use lib.Dec.{eqb, leb}
 use borrow.Author.Tests.{leb-true, ltb-true, eqb-true, not-false}
 use lib.ListN.{length, getD}
+use Rattle.model.specs.Basics.{Check}
 use Rattle.model.specs.Link.{VirtualLink}
 use Rattle.model.specs.Table.{Table, countsInRange, countChecks, fieldsInRange, linkChecks, linksChecks, allAtMost, sizeChecks, tableChecks, tableRefusal}
 use Rattle.model.proofs.Checks.{all-true, Numbered, numbered-append, NoneMet, none-append, none-front, none-back, none-met, first-none}
@@ -71,41 +72,47 @@ sizes-fit sizes pass =
 
 -- ---- the checks of a table
 
-module _ (most : ℕ) (h : 6 ≤ most) where
-  pub links-numbered : (lines : ℕ) (previous : Option ℕ) (links : List VirtualLink) → Numbered most (linksChecks lines previous links)
-  unfolding linksChecks
-  links-numbered lines previous [] = tt
-  links-numbered lines previous (v ∷ links) =
-      numbered-append most (linkChecks lines previous v) (linksChecks lines (some (v .number)) links) (omega arith) (links-numbered lines (some (v .number)) links)
+pub links-numbered : (lines : ℕ) (previous : Option ℕ) (links : List VirtualLink) → Numbered (linksChecks lines previous links)
+unfolding linksChecks
+links-numbered lines previous [] = tt
+links-numbered lines previous (v ∷ links) =
+    numbered-append (linkChecks lines previous v) (linksChecks lines (some (v .number)) links) (omega arith) (links-numbered lines (some (v .number)) links)
 
-  pub table-numbered : (t : Table) → Numbered most (tableChecks t)
-  unfolding tableChecks
-  table-numbered t =
-      let counts = countChecks (t .lines) (length (t .links)) in
-      let links = linksChecks (t .lines) none (t .links) in
-      numbered-append most (counts ++ links) (sizeChecks (t .sizes)) (numbered-append most counts links (omega arith) (links-numbered (t .lines) none (t .links))) (omega arith)
-
--- the parts of a table that passes
-pub record Passes (t : Table) : Type 0 where
-  pub counts : NoneMet (countChecks (t .lines) (length (t .links)))
-  pub links : NoneMet (linksChecks (t .lines) none (t .links))
-  pub sizes : NoneMet (sizeChecks (t .sizes))
-
-pub passes : (t : Table) → tableRefusal t ≡ 0 → Passes t
-unfolding tableRefusal tableChecks
-passes t e =
+pub table-numbered : (t : Table) → Numbered (tableChecks t)
+unfolding tableChecks
+table-numbered t =
     let counts = countChecks (t .lines) (length (t .links)) in
     let links = linksChecks (t .lines) none (t .links) in
-    let pass = none-met 6 (tableChecks t) (table-numbered 6 (omega arith) t) e in
-    let front = none-front (counts ++ links) (sizeChecks (t .sizes)) pass in
-    record { counts = none-front counts links front; links = none-back counts links front; sizes = none-back (counts ++ links) (sizeChecks (t .sizes)) pass }
+    numbered-append (counts ++ links) (sizeChecks (t .sizes)) (numbered-append counts links (omega arith) (links-numbered (t .lines) none (t .links))) (omega arith)
 
-pub passes-refusal : (t : Table) → Passes t → tableRefusal t ≡ 0
-unfolding tableRefusal tableChecks
-passes-refusal t p =
-    let counts = countChecks (t .lines) (length (t .links)) in
-    let links = linksChecks (t .lines) none (t .links) in
-    first-none (counts ++ links ++ sizeChecks (t .sizes)) (none-append (counts ++ links) (sizeChecks (t .sizes)) (none-append counts links (p .counts) (p .links)) (p .sizes))
+-- a table meets no check exactly if it meets none of each part
+module _ (t : Table) where
+  counts : List Check
+  counts = countChecks (t .lines) (length (t .links))
 
-pub passes-counts : (t : Table) → Passes t → CountsFit (t .lines) (length (t .links))
-passes-counts t p = counts-fit (t .lines) (length (t .links)) (not-false (countsInRange (t .lines) (length (t .links))) (p .counts .0))
+  links : List Check
+  links = linksChecks (t .lines) none (t .links)
+
+  sizes : List Check
+  sizes = sizeChecks (t .sizes)
+
+  pub parts-unmet : NoneMet (countChecks (t .lines) (length (t .links))) → NoneMet (linksChecks (t .lines) none (t .links)) → NoneMet (sizeChecks (t .sizes)) → tableRefusal t ≡ 0
+  unfolding tableRefusal tableChecks counts links sizes
+  parts-unmet c l s = first-none (counts ++ links ++ sizes) (none-append (counts ++ links) sizes (none-append counts links c l) s)
+
+  module _ (e : tableRefusal t ≡ 0) where
+    unmet : NoneMet (counts ++ links ++ sizes)
+    unfolding tableRefusal tableChecks counts links sizes
+    unmet = none-met (tableChecks t) (table-numbered t) e
+
+    pub counts-unmet : NoneMet (countChecks (t .lines) (length (t .links)))
+    unfolding counts
+    counts-unmet = none-front counts links (none-front (counts ++ links) sizes unmet)
+
+    pub links-unmet : NoneMet (linksChecks (t .lines) none (t .links))
+    unfolding links
+    links-unmet = none-back counts links (none-front (counts ++ links) sizes unmet)
+
+    pub sizes-unmet : NoneMet (sizeChecks (t .sizes))
+    unfolding sizes
+    sizes-unmet = none-back (counts ++ links) sizes unmet

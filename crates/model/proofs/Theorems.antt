@@ -1,7 +1,8 @@
 -- The theorems of specs/Promises.antt and specs/Examples.antt, each under its name.
 use Rattle.model.specs.Basics.{also}
-use Rattle.model.specs.Promises.{ReadsWritten, WritesRead, FileLength, DemandThree, NeverUnfit, FitnessKept, LengthsKept, CurveGrows, HoldIsSmallest, BoundIsGreatest, NoneAppears, DeparturesInTime, DeparturesSpaced, PassedKeep}
+use Rattle.model.specs.Promises.{ReadsWritten, WritesRead, FileLength, DemandThree, NeverUnfit, FitnessKept, LengthsKept, CurveGrows, HoldIsSmallest, HoldGrows, BoundIsGreatest, NoneAppears, DeparturesInTime, DeparturesSpaced, PassedKeep, DigitsRead, DigitsWritten}
 use Rattle.model.specs.Examples.{ExamplesCorrect}
+use Rattle.model.proofs.Digits as Digits
 use Rattle.model.proofs.ReadBack as ReadBack
 use Rattle.model.proofs.FileWrite as FileWrite
 use Rattle.model.proofs.Curves as Curves
@@ -42,6 +43,9 @@ curve-grows = Curves.curve-grows
 pub hold-is-smallest : HoldIsSmallest
 hold-is-smallest = Holds.hold-smallest
 
+pub hold-grows : HoldGrows
+hold-grows = Holds.hold-grows
+
 pub bound-is-greatest : BoundIsGreatest
 bound-is-greatest = BoundFacts.bound-greatest
 
@@ -56,6 +60,12 @@ departures-spaced = Later.departures-spaced
 
 pub passed-keep : PassedKeep
 passed-keep = Later.passed-keep
+
+pub digits-read : DigitsRead
+digits-read base width n h = (Digits.length-digits base width n, Digits.all-digits base width n h, Digits.from-to base width n h)
+
+pub digits-written : DigitsWritten
+digits-written base digits all = (Digits.from-below base digits all, Digits.to-from base digits all)
 
 pub examples-correct : ExamplesCorrect
 examples-correct =

@@ -11,7 +11,8 @@ use Rattle.model.specs.Link.{VirtualLink, bag}
 use Rattle.model.specs.Arrival.{frameCurve}
 use Rattle.model.specs.Port.{Account, fullAccount}
 use Rattle.model.specs.Report.{replenished, charged}
-use Rattle.model.proofs.Curves.{bag-positive, provided-zero}
+use Rattle.model.proofs.Bags.{bag-positive}
+use Rattle.model.proofs.Curves.{provided-zero}
 use Rattle.model.proofs.Passed.{Passed, total, counts, cnt}
 
 -- the account of link v after the frames h: B for each frame from s on, and the credit left, came from B + J and the ticks since s

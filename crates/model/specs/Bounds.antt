@@ -37,12 +37,16 @@ longest t p = greatestOver (ofPriority p) (λ v. v .greatest) (t .links)
 unfoldable pub blocking : Table → ℕ → ℕ
 blocking t p = greatestOver (beyond p) (λ v. v .greatest) (t .links) - 1
 
--- "hold_p is the smallest w from 1 to 65,536 with b + A_up(w − 1) ≤ w". Hold: the paper's word for the longest busy period
-unfoldable pub holdTest : Table → ℕ → ℕ → Bool
-holdTest t p w = leb (blocking t p + upArrivals t p (w - 1)) w
+-- "hold_p is the smallest w from 1 to 65,536 with b + A_up(w − 1) ≤ w". Hold: the paper's word for the longest busy period.
+-- Of a table it takes b and A_up alone
+unfoldable pub holdTest : ℕ → (ℕ → ℕ) → ℕ → Bool
+holdTest b up w = leb (b + up (w - 1)) w
+
+unfoldable pub holdBy : ℕ → (ℕ → ℕ) → Option ℕ
+holdBy b up = firstFrom (holdTest b up) 65_536 1
 
 unfoldable pub holdOf : Table → ℕ → Option ℕ
-holdOf t p = firstFrom (holdTest t p) 65_536 1
+holdOf t p = holdBy (blocking t p) (upArrivals t p)
 
 -- "the smaller of A_p(w) and A_up(w) − max(0, w − b) + M − 1": the most backlog w ticks into a busy period
 unfoldable pub backlog : Table → ℕ → ℕ → ℕ

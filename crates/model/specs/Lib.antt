@@ -3,6 +3,7 @@ pub mod Basics
 pub mod Units
 pub mod Link
 pub mod Table
+pub mod Digits
 pub mod TableFile
 pub mod Arrival
 pub mod Bounds

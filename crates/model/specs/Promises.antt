@@ -3,14 +3,15 @@ use mathlib.Core.Path.{_≡_}
 use mathlib.Core.Bool.{Bool, true, false, cond}
 use mathlib.Core.Option.{Option, none, some}
 use mathlib.Core.List.{List, [], _∷_, _++_}
-use Prim.Native.Nat.{ℕ, _+_, _-_, _≤_, _<_}
+use Prim.Native.Nat.{ℕ, _+_, _-_, _^_, _≤_, _<_}
 use lib.Dec.{eqb}
 use lib.ListN.{length, getD}
 use Rattle.model.specs.Link.{VirtualLink, linkAt, anyOf}
 use Rattle.model.specs.Table.{Table, tableRefusal}
+use Rattle.model.specs.Digits.{digitsOf, fromDigits, AllDigits}
 use Rattle.model.specs.TableFile.{tableBytes, readTable, fileLength}
 use Rattle.model.specs.Arrival.{arrivalCurve}
-use Rattle.model.specs.Bounds.{ofPriority, upArrivals, blocking, holdOf, backlog, boundsRefusal, hold, bound}
+use Rattle.model.specs.Bounds.{ofPriority, upArrivals, blocking, holdBy, holdOf, backlog, boundsRefusal, hold, bound}
 use Rattle.model.specs.Machine.{Frame, Departure, advance, framesHeld}
 use Rattle.model.specs.Port.{Port}
 use Rattle.model.specs.Fitness.{fit}
@@ -69,6 +70,12 @@ pub record IsHold (t : Table) (p w : ℕ) : Type 0 where
 abbrev pub HoldIsSmallest : Type 0
 HoldIsSmallest = (t : Table) (p : ℕ) → ((w : ℕ) → holdOf t p ≡ some w → IsHold t p w) × (holdOf t p ≡ none → (w : ℕ) → 1 ≤ w → w ≤ 65_536 → w < blocking t p + upArrivals t p (w - 1))
 
+-- the hold grows with b and A, as of two tables: where the greater have a hold, the smaller have one that is no later; where the smaller
+-- have none, the greater have none
+abbrev pub HoldGrows : Type 0
+HoldGrows = (b b' : ℕ) (up up' : ℕ → ℕ) → b ≤ b' → ((w : ℕ) → up w ≤ up' w)
+    → ((h' : ℕ) → holdBy b' up' ≡ some h' → (h : ℕ) × (holdBy b up ≡ some h) × (h ≤ h')) × (holdBy b up ≡ none → holdBy b' up' ≡ none)
+
 -- of a table that has bounds: the bound is attained and is the greatest, and the difference in it is never truncated
 pub record BoundFacts (t : Table) (p : ℕ) : Type 0 where
   pub is-hold : IsHold t p (hold t p)
@@ -120,3 +127,15 @@ DeparturesSpaced = (t : Table) → tableRefusal t ≡ 0 → (calls : List Call) 
 abbrev pub PassedKeep : Type 0
 PassedKeep = (t : Table) → tableRefusal t ≡ 0 → (calls : List Call) → (i : ℕ) → i < length (t .links)
     → KeepBagAndJitter (linkAt (t .links) i) (ticksOf passedBy (linkAt (t .links) i .number) (run t calls .log))
+
+-- ---- numbers as digits, in any base
+
+-- a number that fits a width has as many digits, and is read from them
+abbrev pub DigitsRead : Type 0
+DigitsRead = (base width n : ℕ) → n < base ^ width
+    → (length (digitsOf base width n) ≡ width) × AllDigits base (digitsOf base width n) × (fromDigits base (digitsOf base width n) ≡ n)
+
+-- digits are those of the number that they are, which fits their width
+abbrev pub DigitsWritten : Type 0
+DigitsWritten = (base : ℕ) (digits : List ℕ) → AllDigits base digits
+    → (fromDigits base digits < base ^ length digits) × (digitsOf base (length digits) (fromDigits base digits) ≡ digits)

@@ -2,21 +2,20 @@
 use mathlib.Core.Bool.{_&&_, not}
 use mathlib.Core.Option.{Option, none, some}
 use mathlib.Core.List.{List, [], _∷_, _++_, flatMap}
-use Prim.Native.Nat.{ℕ, zero, suc, _+_, _*_, _/_, _%_}
+use Prim.Native.Nat.{ℕ, zero, suc, _+_, _*_}
 use lib.Dec.{eqb, ltb}
 use lib.ListN.{length, take, drop}
 use Rattle.model.specs.Basics.{eight, Check, check, firstMet}
+use Rattle.model.specs.Digits.{digitsOf, fromDigits}
 use Rattle.model.specs.Link.{VirtualLink}
 use Rattle.model.specs.Table.{Table, blankTable, countChecks, linkChecks, sizeChecks, tableChecks}
 
 -- "little-endian": a number in k bytes, the lowest first; and the number that bytes are
-unfoldable pub toBytes : ℕ → ℕ → List ℕ
-toBytes zero n = []
-toBytes (suc k) n = n % 256 ∷ toBytes k (n / 256)
+abbrev pub toBytes : ℕ → ℕ → List ℕ
+toBytes k n = digitsOf 256 k n
 
-unfoldable pub fromBytes : List ℕ → ℕ
-fromBytes [] = 0
-fromBytes (b ∷ bytes) = b + 256 * fromBytes bytes
+abbrev pub fromBytes : List ℕ → ℕ
+fromBytes bytes = fromDigits 256 bytes
 
 -- the number in the k bytes from place i on
 abbrev pub numberAt : ℕ → ℕ → List ℕ → ℕ

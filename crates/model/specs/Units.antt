@@ -12,9 +12,12 @@ leastLength = 84
 abbrev pub greatestLength : ℕ
 greatestLength = 1_538
 
--- "Buffers are counted in wire bytes too": what a frame of n wire bytes occupies of its buffer
+-- "Buffers are counted in wire bytes too": what a frame of n wire bytes occupies of its buffer, which keeps all of them
+abbrev pub unkept : ℕ
+unkept = 0
+
 unfoldable pub occupied : ℕ → ℕ
-occupied n = n
+occupied n = n - unkept
 
 -- "no queue counts above 195 frames": 16,384 / 84
 abbrev pub mostFrames : ℕ

@@ -20,7 +20,7 @@ use Rattle.port.specs.declared.Port.{Port as PortRecord}
 use Rattle.port.specs.View.{viewPort, emptyQueue, restingPort, freshPort, blankPort}
 use Rattle.port.specs.Contracts.{freshOr, recordFresh}
 use Rattle.port.specs.Resting.{restingWith}
-use Rattle.table_lookup.proofs.Tables.{counts-pass}
+use Rattle.table.proofs.PassingRecord.{counts-pass}
 
 -- ---- what fresh gives
 pub fresh-refused : (t : TableRecord) {n : ℕ} {b : PortRecord} → n ≡ tableRefusal (viewTable t) → (n ≡ 0 → ⊥) → b ≡ restingWith (recordTable blankTable) (replicate 256 (recordAccount blankAccount)) →

@@ -21,7 +21,7 @@ use Rattle.model.proofs.Lined.{lined-count}
 use Rattle.model.proofs.Fitness.{FitPort, fit-is}
 use Rattle.table.specs.View.{viewLinks, viewTable}
 use Rattle.table_lookup.specs.declared.Place.the-variants.{At, Nowhere}
-use Rattle.table_lookup.proofs.Tables.{counts-pass}
+use Rattle.table.proofs.PassingRecord.{counts-pass}
 use Rattle.port_scheduler.specs.declared.Frame.{Frame as FrameRecord}
 use Rattle.port_scheduler.specs.View.{blankQueue, viewQueue, viewQueues}
 use Rattle.port_scheduler.proofs.Shown.{queue-shown, queue-count}
@@ -70,7 +70,7 @@ module _ (p : PortRecord) (w : Whole p) (line len : ℕ) (k : Arrived p line len
               counted,
               shown,
               lined-count (viewPortTable p) q (p .clock) 0 (queueOf (viewQueues (p .queues)) q) (fits .table) (fits .lined q h),
-              fits .table .sizes-most q,
+              fits .table .sizes .most q,
               k .long,
             );
       }

@@ -12,11 +12,9 @@ use Rattle.model.specs.Link.{VirtualLink, bag}
 use Rattle.model.specs.Port.{Account, blankAccount, accountAt, withGate}
 use Rattle.model.specs.Report.{Policed, policeAt, hasRoom, store, passedIf, judge, arrived}
 use Rattle.model.proofs.Entries.{getD-entries}
-use Rattle.model.proofs.ValidTable.{valid}
 use Rattle.table.specs.declared.VirtualLink.{VirtualLink as LinkFields}
 use Rattle.table.specs.View.{viewLink, blankFields, viewTable}
-use Rattle.table.proofs.Shape.{link-shown, count-shown}
-use Rattle.table_lookup.proofs.Tables.{counts-pass}
+use Rattle.table.proofs.PassingRecord.{counts-pass, entry-is, entry-fits}
 use Rattle.port_policing.specs.Check.{viewAccount, recordAccount}
 use Rattle.port_scheduler.specs.declared.Frame.{Frame as FrameRecord}
 use Rattle.port_scheduler.specs.View.{blankQueue}
@@ -33,23 +31,17 @@ use Rattle.port.proofs.Stores.{entries-set, map-set}
 use Rattle.port.proofs.Stored.{withQueues, settled-verdict, settled-port}
 
 module _ (p : PortRecord) (w : Whole p) (i len : ℕ) (k : LetThrough p i len) where
-  few : p .table .count ≤ 256
-  few = counts-pass (p .table) (k .table) .links-most
-
   pub in-array : i < 256
-  in-array = omega (arith, few, k .place)
+  in-array = omega (arith, counts-pass (p .table) (k .table) .links-most, k .place)
 
   abbrev fields : LinkFields
   fields = getD (p .table .links) i blankFields
 
   pub link-is : linkOf p i ≡ viewLink (getD (p .table .numbers) i 0) fields
-  link-is = link-shown (p .table) i (w .table) (k .place) few
+  link-is = entry-is (p .table) (k .table) i (k .place)
 
   pub priority-in : fields .priority < 8
-  unfolding viewTable
-  priority-in =
-      let e : linkOf p i .priority ≡ fields .priority = ap (λ (u : VirtualLink). u .priority) link-is in
-      omega (arith, valid (viewPortTable p) (k .table) .fields i (omega (arith, count-shown (p .table), k .place)) .priority-most)
+  priority-in = omega (arith, entry-fits (p .table) (k .table) i (k .place) .priority-most)
 
   -- ---- the store
   abbrev it : FrameRecord

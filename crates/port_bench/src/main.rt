@@ -1,8 +1,8 @@
 // For bench/: queues frames, then waits at one tick over and over, so that the time of a report can be taken.
 // Standard input: how many frames and how many waits, 8 bytes each, little-endian, then a table file.
-use fields::byte;
 use libc::STDIN_FILENO;
 use libc::STDOUT_FILENO;
+use little_endian::read4;
 use port::Port;
 ghost use Prim.Native.Nat.{_≤_};
 
@@ -16,12 +16,15 @@ fn main() {
     }
     let mut file = [0u8; 4653];
     let n = io::read_full(STDIN_FILENO, &mut file);
-    run(&file[..n], number(&head, 0), number(&head, 8));
+    // Below 2^32, which is enough.
+    let frames = read4(&head, 0) as u64;
+    let waits = read4(&head, 8) as u64;
+    run(&file[..n], frames, waits);
 }
 
 // Prints how many frames are queued at the end.
 fn run(file: &[u8], frames: u64, waits: u64)
-    requires { ⌜ (frames ≤ 16777215) × (waits ≤ 16777215) ⌝ }
+    requires { ⌜ (frames ≤ 4294967295) × (waits ≤ 4294967295) ⌝ }
 {
     let reading = table_file::read(file);
     let t = reading.table;
@@ -34,7 +37,7 @@ fn run(file: &[u8], frames: u64, waits: u64)
 
 // Frames of 84 bytes of the links 0 to 239, which are on 24 lines in turn, each 84 ticks after the last of its line.
 fn filled(mut port: Port, frames: u64) -> Port
-    requires { ⌜ frames ≤ 16777215 ⌝ }
+    requires { ⌜ frames ≤ 4294967295 ⌝ }
 {
     let mut list = [0u64; ROOM];
     let mut i: u64 = 0;
@@ -52,7 +55,7 @@ fn framed(port: Port, tick: u64, line: u64, number: u64, list: &mut [u64; ROOM])
 
 // So many waits, four at a time.
 fn waited(mut port: Port, waits: u64) -> Port
-    requires { ⌜ waits ≤ 16777215 ⌝ }
+    requires { ⌜ waits ≤ 4294967295 ⌝ }
 {
     let mut list = [0u64; ROOM];
     let tick = port.clock;
@@ -74,12 +77,4 @@ fn four_waits(port: Port, tick: u64, list: &mut [u64; ROOM]) -> Port {
     let third = c.port;
     let d = third.wait(tick, list);
     d.port
-}
-
-// Below 2^24, which is enough.
-fn number(s: &[u8], at: usize) -> u64
-    requires { ⌜ at ≤ 8 ⌝ }
-    ensures { λ r. ⌜ r ≤ 16777215 ⌝ }
-{
-    byte(s, at) as u64 + 256 * (byte(s, at + 1) as u64) + 65536 * (byte(s, at + 2) as u64)
 }

@@ -1,5 +1,5 @@
 // How many entries of an array a case gives.
-use fields::two;
+use little_endian::read2;
 ghost use Prim.Native.Nat.{_≤_};
 
 pub(crate) fn least(a: usize, b: usize) -> usize
@@ -10,8 +10,7 @@ pub(crate) fn least(a: usize, b: usize) -> usize
 
 // The entries that are not given are like the last.
 pub(crate) fn given(s: &[u8], at: usize, most: usize) -> usize
-    requires { ⌜ at ≤ 80000 ⌝ }
     ensures { λ r. ⌜ r ≤ most ⌝ }
 {
-    least(two(s, at) as usize, most)
+    least(read2(s, at) as usize, most)
 }

@@ -5,11 +5,11 @@ mod given;
 mod record;
 mod sums;
 
-use fields::eight;
-use fields::two;
 use given::least;
 use libc::STDIN_FILENO;
 use libc::STDOUT_FILENO;
+use little_endian::read2;
+use little_endian::read8;
 use port::Answer;
 use port::Port;
 use port_scheduler::Queue;
@@ -44,14 +44,14 @@ fn next_case() -> bool {
         return false;
     }
     let mut body = [0u8; BODY];
-    if !take(two(&head, 1) as isize, &mut body) {
+    if !take(read2(&head, 1) as isize, &mut body) {
         return false;
     }
     let mut many = [0u8; 2];
     if io::read_full(STDIN_FILENO, &mut many) < 2 {
         return false;
     }
-    run(start(head[0], &body), two(&many, 0));
+    run(start(head[0], &body), read2(&many, 0));
     true
 }
 
@@ -108,25 +108,25 @@ fn answer(port: Port, bytes: &[u8; REPORT]) -> Answer {
         number(a.frames);
         number(a.bytes);
     }
-    number(sums::of_list(&list, two(bytes, 1) as usize));
+    number(sums::of_list(&list, read2(bytes, 1) as usize));
     say(b"\n");
     a
 }
 
 // The report is lent as many numbers of the list as it says.
 fn lent(port: Port, bytes: &[u8; REPORT], list: &mut [u64]) -> Answer {
-    let n = least(two(bytes, 1) as usize, list.len());
+    let n = least(read2(bytes, 1) as usize, list.len());
     report(port, bytes, &mut list[..n])
 }
 
 fn report(port: Port, bytes: &[u8; REPORT], list: &mut [u64]) -> Answer {
-    let tick = eight(bytes, 3);
+    let tick = read8(bytes, 3);
     if bytes[0] == 0 {
         return port.wait(tick, list);
     }
-    let line = eight(bytes, 11);
-    let number = eight(bytes, 19);
-    let length = eight(bytes, 27);
+    let line = read8(bytes, 11);
+    let number = read8(bytes, 19);
+    let length = read8(bytes, 27);
     port.frame(tick, line, number, length, list)
 }
 

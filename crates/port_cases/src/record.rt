@@ -1,10 +1,10 @@
 // Table and port records of a case. An array stands there as its last entry, how many are given (2 bytes),
 // and these.
 use crate::given::given;
-use fields::byte;
-use fields::eight;
-use fields::four;
-use fields::two;
+use little_endian::read1;
+use little_endian::read2;
+use little_endian::read4;
+use little_endian::read8;
 use port::Port;
 use port_policing::Account;
 use port_policing::Gate;
@@ -20,17 +20,17 @@ pub(crate) fn table_at(s: &[u8], at: usize) -> Table
     requires { ⌜ at ≤ 100 ⌝ }
 {
     let n = given(s, at + 17, 256);
-    let mut numbers = [two(s, at + 4); 256];
+    let mut numbers = [read2(s, at + 4); 256];
     let last = link_at(s, at + 6);
     let mut links = [last; 256];
     for i in 0..n {
-        numbers[i] = two(s, at + 19 + 13 * i);
+        numbers[i] = read2(s, at + 19 + 13 * i);
         links[i] = link_at(s, at + 21 + 13 * i);
     }
     let sizes = sizes_at(s, at + 19 + 13 * n);
     Table {
-        lines: two(s, at),
-        count: two(s, at + 2),
+        lines: read2(s, at),
+        count: read2(s, at + 2),
         numbers,
         links,
         sizes,
@@ -48,12 +48,12 @@ fn link_at(s: &[u8], at: usize) -> VirtualLink
     requires { ⌜ at ≤ 60000 ⌝ }
 {
     VirtualLink {
-        line: byte(s, at),
-        priority: byte(s, at + 1),
-        code: byte(s, at + 2),
-        least: two(s, at + 3),
-        greatest: two(s, at + 5),
-        jitter: four(s, at + 7),
+        line: read1(s, at),
+        priority: read1(s, at + 1),
+        code: read1(s, at + 2),
+        least: read2(s, at + 3),
+        greatest: read2(s, at + 5),
+        jitter: read4(s, at + 7),
     }
 }
 
@@ -62,7 +62,7 @@ fn sizes_at(s: &[u8], at: usize) -> [u32; 8]
 {
     let mut sizes = [0u32; 8];
     for p in 0..8 {
-        sizes[p] = four(s, at + 4 * p);
+        sizes[p] = read4(s, at + 4 * p);
     }
     sizes
 }
@@ -78,7 +78,7 @@ pub(crate) fn port_of(s: &[u8]) -> Port {
     let sender = sender_at(s, 8);
     Port {
         table,
-        clock: eight(s, 0),
+        clock: read8(s, 0),
         queues,
         sender,
         gate: Gate {
@@ -91,19 +91,19 @@ pub(crate) fn port_of(s: &[u8]) -> Port {
 fn sender_at(s: &[u8], at: usize) -> Sender
     requires { ⌜ at ≤ 60000 ⌝ }
 {
-    if byte(s, at) == 0 {
+    if read1(s, at) == 0 {
         return Sender::Idle;
     }
-    Sender::Sending(byte(s, at + 1), eight(s, at + 2))
+    Sender::Sending(read1(s, at + 1), read8(s, at + 2))
 }
 
 fn ticks_at(s: &[u8], at: usize) -> [u64; 24]
     requires { ⌜ at ≤ 60000 ⌝ }
 {
     let n = given(s, at + 8, 24);
-    let mut ticks = [eight(s, at); 24];
+    let mut ticks = [read8(s, at); 24];
     for i in 0..n {
-        ticks[i] = eight(s, at + 10 + 8 * i);
+        ticks[i] = read8(s, at + 10 + 8 * i);
     }
     ticks
 }
@@ -112,8 +112,8 @@ fn account_at(s: &[u8], at: usize) -> Account
     requires { ⌜ at ≤ 70000 ⌝ }
 {
     Account {
-        credit: eight(s, at),
-        tick: eight(s, at + 8),
+        credit: read8(s, at),
+        tick: read8(s, at + 8),
     }
 }
 
@@ -133,9 +133,9 @@ fn frame_at(s: &[u8], at: usize) -> Frame
     requires { ⌜ at ≤ 70000 ⌝ }
 {
     Frame {
-        number: two(s, at),
-        length: two(s, at + 2),
-        arrival: eight(s, at + 4),
+        number: read2(s, at),
+        length: read2(s, at + 2),
+        arrival: read8(s, at + 4),
     }
 }
 
@@ -150,8 +150,8 @@ fn queue_at(s: &[u8], at: usize) -> Queue
         frames[i] = frame_at(s, at + 20 + 12 * i);
     }
     Queue {
-        count: two(s, at),
-        mark: four(s, at + 2),
+        count: read2(s, at),
+        mark: read4(s, at + 2),
         frames,
     }
 }

@@ -1,5 +1,6 @@
 // 32-bit FNV-1a of a list, and of the numbers of a port, each number as 8 bytes, little-endian.
 use crate::given::least;
+use little_endian::write8;
 use port::Port;
 use port_policing::Account;
 use port_scheduler::Queue;
@@ -14,15 +15,19 @@ pub(crate) const LIST: usize = 4700;
 const NOTHING: u64 = 2166136261;
 
 fn with(sum: u64, number: u64) -> u64 {
+    let mut bytes = [0u8; 8];
+    write8(&mut bytes, 0, number);
     let mut r = sum;
-    let mut rest = number;
     let mut i: usize = 0;
     while i < 8 {
-        r = (r ^ rest % 256) % 4294967296 * 16777619 % 4294967296;
-        rest = rest / 256;
+        r = (r ^ wide(bytes[i])) % 4294967296 * 16777619 % 4294967296;
         i += 1;
     }
     r
+}
+
+fn wide(x: u8) -> u64 {
+    x as u64
 }
 
 pub(crate) fn of_list(list: &[u64; LIST], n: usize) -> u64 {

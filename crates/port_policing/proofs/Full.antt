@@ -1,7 +1,7 @@
 -- The accounts at rest: blanks, and one account more.
 use mathlib.Core.Path.{_≡_, sym, ap, _∙_}
 use mathlib.Core.List.{List, [], _∷_, _++_, map, map-append}
-use Prim.Native.Nat.{ℕ, zero, suc, _+_, _≤_, _<_}
+use Prim.Native.Nat.{ℕ, _+_, _≤_, _<_}
 use native.Mathlib.Numerals.{add-one}
 use native.Mathlib.Omega.{arith}
 use lib.ListN.{length, getD, set, take, replicate, length-map}
@@ -16,19 +16,6 @@ use Rattle.table.proofs.Shape.{Sized, link-shown, count-shown}
 use Rattle.port_policing.specs.declared.Account.{Account as AccountRecord}
 use Rattle.port_policing.specs.Check.{recordAccount}
 use Rattle.port_policing.specs.Full.{fullAccounts}
-
--- a BAG has 21 bits
-pub bag-most : (code : ℕ) → bagOf code ≤ 1_600_000
-unfolding bagOf
-bag-most zero = omega arith
-bag-most (suc zero) = omega arith
-bag-most (suc (suc zero)) = omega arith
-bag-most (suc (suc (suc zero))) = omega arith
-bag-most (suc (suc (suc (suc zero)))) = omega arith
-bag-most (suc (suc (suc (suc (suc zero))))) = omega arith
-bag-most (suc (suc (suc (suc (suc (suc zero)))))) = omega arith
-bag-most (suc (suc (suc (suc (suc (suc (suc zero))))))) = omega arith
-bag-most (suc (suc (suc (suc (suc (suc (suc (suc n)))))))) = omega arith
 
 -- ---- the accounts, one more
 abbrev pub accountsOf : List VirtualLink → List AccountRecord

@@ -16,7 +16,7 @@ use Rattle.model.specs.Fitness.{framesFit, senderFit}
 use Rattle.model.proofs.Checks.{all-true, true-all}
 use Rattle.table.specs.declared.Table.{Table as TableRecord}
 use Rattle.table.specs.View.{viewLink, blankFields, viewLinks, viewTable}
-use Rattle.table.proofs.Shape.{Sized, link-shown}
+use Rattle.table.proofs.PassingRecord.{entry-is}
 use Rattle.port_scheduler.specs.declared.Queue.{Queue}
 use Rattle.port_scheduler.specs.declared.Sender.{Sender as SenderRecord}
 use Rattle.port_scheduler.specs.View.{viewFrame, blankEntry, blankQueue, viewQueue, viewQueues, viewMarks, viewSender}
@@ -29,7 +29,7 @@ use Rattle.table_lookup.specs.Places.{viewPlace, Found}
 use Rattle.port_fitness.specs.Conditions.{frameFits}
 use Rattle.port_queue_fitness.specs.Queues.{loadFits, queueFits, queuesFit, fitnessIf, queuesFitness}
 use Rattle.port_fitness.proofs.All.{not-both, same-truth, any-false, all-stops, all-end}
-use Rattle.table_lookup.proofs.Tables.{Passing, passing}
+use Rattle.table_lookup.proofs.Tables.{links-named}
 use Rattle.port_queue_fitness.proofs.Frames.{frame-shown, names-none, names-one, frames-end}
 
 -- ---- the frames of a queue
@@ -40,7 +40,7 @@ module _ (t : TableRecord) (q : Queue) (p clock low i : ℕ)
       let all : framesFit (viewTable t) p clock 0 (viewQueue q) ≡ true = so-far ∙ frames-end (viewTable t) p clock low (viewQueue q) i (omega (arith, count-shown q)) in
       rw (e, x) (same-truth _ _ (λ y. true-all _ (all, (y, tt))) (λ (y : loadFits t clock p q ≡ true). all-true _ y .1 .0))
 
-  module _ (s : Sized t) (pass : tableRefusal (viewTable t) ≡ 0) (w : q .count ≤ length (q .frames)) (h : i < q .count)
+  module _ (pass : tableRefusal (viewTable t) ≡ 0) (w : q .count ≤ length (q .frames)) (h : i < q .count)
       (n : ℕ) (same : n ≡ getD (q .frames) i blankEntry .number) (r : Place) (found : Found (t .numbers) (t .count) n r) where
     abbrev f : Frame
     f = viewFrame (getD (q .frames) i blankEntry)
@@ -48,12 +48,9 @@ module _ (t : TableRecord) (q : Queue) (p clock low i : ℕ)
     within : i < length (viewQueue q)
     within = rw count-shown h
 
-    known : Passing t
-    known = passing t s pass
-
     place-is : placeOf (f .number) (viewTable t .links) ≡ viewPlace r
     unfolding viewTable
-    place-is = rw (← same) (found .place (viewLinks t) (known .named))
+    place-is = rw (← same) (found .place (viewLinks t) (links-named t pass))
 
     pub unnamed : r ≡ Nowhere → false ≡ loadFits t clock p q
     unnamed e = any-false _ 0 (so-far ∙ names-none (viewTable t) p clock low (viewQueue q) i within f (frame-shown q i h w) (place-is ∙ ap viewPlace e))
@@ -61,7 +58,7 @@ module _ (t : TableRecord) (q : Queue) (p clock low i : ℕ)
     module _ (k : ℕ) (e : r ≡ At k) (b : Bool) (is : (m : ℕ) → b ≡ frameFits (viewLink m (getD (t .links) k blankFields)) p clock low f) where
       link-is : linkAt (viewTable t .links) k ≡ viewLink (getD (t .numbers) k 0) (getD (t .links) k blankFields)
       unfolding viewTable
-      link-is = link-shown t k s (found .below k e) (known .links-most)
+      link-is = entry-is t pass k (found .below k e)
 
       tested : framesFit (viewTable t) p clock 0 (viewQueue q) ≡ (b && framesFit (viewTable t) p clock (f .arrival) (drop (i + 1) (viewQueue q)))
       tested =

@@ -5,6 +5,7 @@ use port_scheduler::Queue;
 use port_scheduler::Sender;
 use table::Table;
 use table_lookup::Place;
+use units::MOST_FRAMES;
 ghost use mathlib.Core.Path.{_≡_};
 ghost use mathlib.Core.Bool.{false};
 ghost use Prim.Native.Nat.{_≤_};
@@ -65,7 +66,7 @@ fn load_fits(t: Table, guesses: &[u8; 1024], q: Queue, priority: u8, clock: u64)
             return false;
         }
         low = f.arrival;
-        sum += port_scheduler::occupancy(f.length);
+        sum += units::occupancy(f.length);
         i += 1;
     }
     sum <= u32_as_u64(q.mark)
@@ -86,7 +87,7 @@ pub fn queues_fit(t: Table, queues: [Queue; 8], sender: Sender, clock: u64) -> F
                 guesses = made;
             }
             let q = queues[i];
-            if 195 < q.count {
+            if (MOST_FRAMES as u16) < q.count {
                 return unfit();
             }
             if !load_fits(t, &guesses, q, i as u8, clock) {

@@ -1,10 +1,12 @@
 // Internal to the product: queues, the sender, and the advance frame by frame.
 use numbers::u16_as_u64;
+use units::MOST_FRAMES;
+use units::occupancy;
 ghost use mathlib.Core.Path.{_≡_};
 ghost use mathlib.Core.List.{_++_, _∷_};
 ghost use Prim.Native.Nat.{_+_, _≤_, _<_};
 ghost use lib.ListN.{length, take, drop};
-ghost use Rattle.model.specs.Units.{occupied, mostFrames};
+ghost use Rattle.model.specs.Units.{mostFrames};
 ghost use Rattle.model.specs.Machine.{highestWaiting, startIfAny, framesHeld, held as heldBytes};
 ghost use Rattle.port_scheduler.specs.View.{viewQueue, viewQueues, viewMarks, viewSender};
 ghost use Rattle.port_scheduler.specs.Contracts.{Pushed, Ready, advanceFrom, Advanced};
@@ -15,9 +17,6 @@ pub struct Frame {
     pub length: u16,
     pub arrival: u64,
 }
-
-// No queue counts more frames: 16,384 / 84.
-pub const MOST_FRAMES: usize = 195;
 
 // The first count frames are queued, the oldest first.
 pub struct Queue {
@@ -38,13 +37,6 @@ pub struct Moved {
     pub sender: Sender,
     pub frames: u64,
     pub bytes: u64,
-}
-
-// What a frame takes of its buffer.
-pub fn occupancy(length: u16) -> u64
-    ensures { λ r. ⌜ (r ≡ occupied length) × (r ≤ 65535) ⌝ }
-{
-    u16_as_u64(length)
 }
 
 // The bytes that a queue holds.

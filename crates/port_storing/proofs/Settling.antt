@@ -4,7 +4,7 @@ use mathlib.Core.Bool.{Bool, true, false}
 use Prim.Native.Nat.{ℕ, _+_, _≤_, _<_}
 use lib.Dec.{leb}
 use borrow.Author.Tests.{leb-true}
-use Rattle.model.specs.Units.{occupied}
+use Rattle.model.specs.Units.{occupied, mostFrames}
 use Rattle.model.specs.Machine.{held}
 use Rattle.port_scheduler.specs.declared.Frame.{Frame as FrameRecord}
 use Rattle.port_scheduler.specs.declared.Queue.{Queue}
@@ -24,7 +24,7 @@ module _ (q : Queue) (size : ℕ) (f : FrameRecord) {h more s : ℕ} (holds : h 
     pub has-room : h + more ≤ s
     has-room = leb-true (h + more) s (sym tested ∙ z)
 
-    pub has-place : Roomy q size f → q .count < 195
+    pub has-place : Roomy q size f → q .count < mostFrames
     has-place r = r .room (leb-true (held (viewQueue q) + occupied (f .length)) size (sym is-tested ∙ z))
 
     pub settles : {r : Queue} → Stored q f (h + more) r → Settles q size f (record { verdict = 0; queue = r })

@@ -29,7 +29,7 @@ abbrev pub Kept : ℕ → Queue → FrameRecord → Queue → Type 0
 Kept zero q f r = Stored q f (held (viewQueue q) + occupied (f .length)) r
 Kept (suc n) q f r = r ≡ q
 
--- a queue whose count is at most 195, and below it where the frame has room
+-- a queue that counts at most as many frames as a queue may, and fewer where the frame has room
 pub record Roomy (q : Queue) (size : ℕ) (f : FrameRecord) : Type 0 where
   pub few : q .count ≤ mostFrames
   pub room : held (viewQueue q) + occupied (f .length) ≤ size → q .count < mostFrames

@@ -50,7 +50,7 @@ pub fn settle(queue: Queue, size: u32, f: Frame) -> Settled
     ensures { λ r. ⌜ Settles queue size f r ⌝ }
 {
     let held = port_scheduler::held(queue);
-    let more = port_scheduler::occupancy(f.length);
+    let more = units::occupancy(f.length);
     if !has_room(held, more, u32_as_u64(size)) {
         return Settled { verdict: 3, queue };
     }

@@ -1,43 +1,68 @@
 // What is printed.
-use crate::text::say;
-use crate::text::text_of;
-use crate::text::with;
-use crate::text::with_number;
-use libc::STDOUT_FILENO;
+use crate::text::Out;
+use crate::text::ROOM;
+use libc::STDERR_FILENO;
 use port::Port;
 use port_scheduler::Queue;
+use units::LIST_ROOM;
+use units::MOST_FRAMES;
+use units::MOST_HELD;
 ghost use Prim.Native.Nat.{_≤_};
 
-// Room for all that 8 queues of 195 frames can free, three numbers each.
-pub(crate) const LIST: usize = 4680;
-
-pub(crate) fn failed(what: &[u8], name: &[u8]) {
-    io::write_all(STDOUT_FILENO, what);
-    io::write_all(STDOUT_FILENO, name);
-    io::write_all(STDOUT_FILENO, b"\n");
+// To standard error: a message; or `refused` alone, which tells that all is refused and not one report of a list.
+pub(crate) fn tell(what: &[u8], name: &[u8]) {
+    io::write_all(STDERR_FILENO, what);
+    io::write_all(STDERR_FILENO, name);
+    io::write_all(STDERR_FILENO, b"\n");
 }
 
-pub(crate) fn refused(number: u64) {
-    let t = with_number(text_of(b"refused "), number);
-    say(with(t, b"\n"));
+// The table or the file of reports is refused.
+pub(crate) fn refuse(number: u64) {
+    let mut room = [0u8; ROOM];
+    let out = put_refused(Out::empty(), &mut room, number);
+    let end = out.written(&room);
+    if end.failed {
+        tell(b"can't write", b"");
+    } else {
+        tell(b"refused", b"");
+    }
 }
 
-// The line up to the departures.
-pub(crate) fn accepted(verdict: u64, frames: u64, bytes: u64) {
-    let v = with_number(text_of(b"accepted "), verdict);
-    let f = with_number(with(v, b" "), frames);
-    say(with_number(with(f, b" "), bytes));
+// The line of a report.
+pub(crate) fn put_answer(
+    out: Out,
+    room: &mut [u8; ROOM],
+    refused: u64,
+    verdict: u64,
+    frames: u64,
+    bytes: u64,
+    list: &[u64; LIST_ROOM],
+) -> Out {
+    if refused != 0 {
+        return put_refused(out, room, refused);
+    }
+    let v = out.text(room, b"accepted ").number(room, verdict);
+    let f = v.text(room, b" ").number(room, frames);
+    let b = f.text(room, b" ").number(room, bytes);
+    put_departures(b, room, list, frames)
+}
+
+fn put_refused(out: Out, room: &mut [u8; ROOM], number: u64) -> Out {
+    out.text(room, b"refused ")
+        .number(room, number)
+        .text(room, b"\n")
 }
 
 // The departures, three numbers of the list each, and the end of the line.
-pub(crate) fn say_departures(list: &[u64; LIST], frames: u64) {
-    let n = least(frames, 1560) as usize;
+fn put_departures(out: Out, room: &mut [u8; ROOM], list: &[u64; LIST_ROOM], frames: u64) -> Out {
+    let n = least(frames, MOST_HELD as u64) as usize;
+    let mut line = out;
     let mut i: usize = 0;
     while i < n {
-        say_departure(list[3 * i], list[3 * i + 1], list[3 * i + 2]);
+        line = put_departure(line, room, list[3 * i], list[3 * i + 1], list[3 * i + 2]);
         i += 1;
     }
-    say(text_of(b"\n"));
+    line.text(room, b"\n")
 }
 
 fn least(a: u64, b: u64) -> u64
@@ -46,31 +71,32 @@ fn least(a: u64, b: u64) -> u64
     if a < b { a } else { b }
 }
 
-fn say_departure(number: u64, length: u64, tick: u64) {
-    let n = with_number(text_of(b" "), number);
-    let l = with_number(with(n, b":"), length);
-    say(with_number(with(l, b":"), tick));
+fn put_departure(out: Out, room: &mut [u8; ROOM], number: u64, length: u64, tick: u64) -> Out {
+    let n = out.text(room, b" ").number(room, number);
+    let l = n.text(room, b":").number(room, length);
+    l.text(room, b":").number(room, tick)
 }
 
-pub(crate) fn say_end(port: Port) {
-    say(text_of(b"priority held mark\n"));
+pub(crate) fn put_end(out: Out, room: &mut [u8; ROOM], port: Port) -> Out {
+    let mut lines = out.text(room, b"priority held mark\n");
     let mut p: usize = 0;
     while p < 8 {
         let q = port.queues[p];
-        say_queue(p as u64, q);
+        lines = put_queue(lines, room, p as u64, q);
         p += 1;
     }
+    lines
 }
 
-fn say_queue(p: u64, q: Queue) {
-    let t = with_number(text_of(b""), p);
-    let h = with_number(with(t, b" "), held(q));
-    let m = with_number(with(h, b" "), q.mark as u64);
-    say(with(m, b"\n"));
+fn put_queue(out: Out, room: &mut [u8; ROOM], p: u64, q: Queue) -> Out {
+    let h = out.number(room, p).text(room, b" ").number(room, held(q));
+    h.text(room, b" ")
+        .number(room, q.mark as u64)
+        .text(room, b"\n")
 }
 
 fn held(q: Queue) -> u64 {
-    if q.count > 195 {
+    if q.count > MOST_FRAMES as u16 {
         return 0;
     }
     port_scheduler::held(q)

@@ -8,15 +8,13 @@ mod text;
 use libc::SEEK_SET;
 use port::Port;
 use table::Table;
-use text::say;
-use text::text_of;
 
 // The longest table file, and a byte more.
 const TABLE: usize = 4653;
 
 fn main() {
     if os::arg_count() != 3 {
-        say(text_of(b"usage: replay TABLE REPORTS\n"));
+        answers::tell(b"usage: replay TABLE REPORTS", b"");
         return;
     }
     let mut name = io::buffer();
@@ -27,7 +25,7 @@ fn main() {
 fn with_table(name: &[u8]) {
     let fd = os::open_read(name);
     if fd < 0 {
-        answers::failed(b"can't open ", name);
+        answers::tell(b"can't open ", name);
         return;
     }
     let mut file = [0u8; TABLE];
@@ -35,12 +33,12 @@ fn with_table(name: &[u8]) {
     let is_whole = n == TABLE || parts::has_ended(fd);
     libc::close(fd);
     if !is_whole {
-        answers::failed(b"can't read ", name);
+        answers::tell(b"can't read ", name);
         return;
     }
     let reading = table_file::read(&file[..n]);
     if reading.refused != 0 {
-        answers::refused(reading.refused as u64);
+        answers::refuse(reading.refused as u64);
         return;
     }
     let t = reading.table;
@@ -53,27 +51,32 @@ fn with_table(name: &[u8]) {
 fn with_reports(t: Table, name: &[u8]) {
     let fd = os::open_read(name);
     if fd < 0 {
-        answers::failed(b"can't open ", name);
+        answers::tell(b"can't open ", name);
         return;
     }
-    let state = parts::check(fd);
-    if state == parts::OTHER {
-        answers::refused(19);
-    } else if !replayed(t, fd, state) {
-        answers::failed(b"can't read ", name);
-    }
+    let state = answered(t, fd);
     libc::close(fd);
+    if state == parts::OTHER {
+        answers::refuse(19);
+    } else if state == parts::FAILED {
+        answers::tell(b"can't read ", name);
+    } else if state == parts::UNWRITTEN {
+        answers::tell(b"can't write", b"");
+    }
 }
 
-// Whether the file could be read to its end, both times.
-fn replayed(t: Table, fd: i32, state: u8) -> bool {
-    if state != parts::ENDED || libc::lseek(fd, 0, SEEK_SET) != 0 {
-        return false;
+fn answered(t: Table, fd: i32) -> u8 {
+    let state = parts::check(fd);
+    if state != parts::ENDED {
+        return state;
+    }
+    if libc::lseek(fd, 0, SEEK_SET) != 0 {
+        return parts::FAILED;
     }
     let start = Port::fresh(t);
     if start.refused != 0 {
-        answers::refused(start.refused as u64);
-        return true;
+        answers::refuse(start.refused as u64);
+        return state;
     }
     let port = start.port;
     parts::replay(port, fd)

@@ -1,52 +1,64 @@
-// A piece of text that is written in one call. What it has no room for is left out.
+// What is printed is collected in a room that the caller lends, and written when the room is full.
 use libc::STDOUT_FILENO;
 
-const ROOM: usize = 96;
+pub(crate) const ROOM: usize = 8192;
 
-pub(crate) struct Text {
-    pub bytes: [u8; ROOM],
+// How many bytes are collected, and whether a write has failed.
+pub(crate) struct Out {
     pub length: usize,
+    pub failed: bool,
 }
 
-fn with_byte(text: Text, byte: u8) -> Text {
-    let mut r = text;
-    let n = r.length;
-    if n < ROOM {
-        r.bytes[n] = byte;
-        r.length = n + 1;
+impl Out {
+    pub(crate) fn empty() -> Out {
+        Out {
+            length: 0,
+            failed: false,
+        }
     }
-    r
-}
 
-pub(crate) fn text_of(first: &[u8]) -> Text {
-    let empty = Text {
-        bytes: [0u8; ROOM],
-        length: 0,
-    };
-    with(empty, first)
-}
-
-pub(crate) fn with(text: Text, more: &[u8]) -> Text {
-    let mut r = text;
-    let mut i: usize = 0;
-    while i < more.len() {
-        r = with_byte(r, more[i]);
-        i += 1;
+    fn byte(self, room: &mut [u8; ROOM], byte: u8) -> Out {
+        let mut out = self;
+        if out.length >= ROOM {
+            out = out.written(room);
+        }
+        let n = out.length;
+        if n < ROOM {
+            room[n] = byte;
+            out.length = n + 1;
+        }
+        out
     }
-    r
-}
 
-pub(crate) fn with_number(text: Text, n: u64) -> Text {
-    let mut digits = [0u8; 20];
-    let k = io::decimal(n, &mut digits);
-    with(text, &digits[..k])
-}
-
-pub(crate) fn say(text: Text) {
-    let bytes = text.bytes;
-    let n = text.length;
-    if n <= ROOM {
-        let k = io::count(n as isize, &bytes);
-        io::write_all(STDOUT_FILENO, &bytes[..k]);
+    pub(crate) fn text(self, room: &mut [u8; ROOM], text: &[u8]) -> Out {
+        let mut out = self;
+        let mut i: usize = 0;
+        while i < text.len() {
+            out = out.byte(room, text[i]);
+            i += 1;
+        }
+        out
     }
+
+    pub(crate) fn number(self, room: &mut [u8; ROOM], n: u64) -> Out {
+        let mut digits = [0u8; 20];
+        let k = io::decimal(n, &mut digits);
+        self.text(room, &digits[..k])
+    }
+
+    // All that is collected, written.
+    pub(crate) fn written(self, room: &[u8; ROOM]) -> Out {
+        Out {
+            length: 0,
+            failed: self.failed || !is_written(room, self.length),
+        }
+    }
+}
+
+fn is_written(room: &[u8], n: usize) -> bool {
+    if n > ROOM {
+        return false;
+    }
+    let k = io::count(n as isize, room);
+    io::write_all(STDOUT_FILENO, &room[..k])
 }

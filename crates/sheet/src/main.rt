@@ -1,10 +1,34 @@
-// Reads a table file on standard input and prints its sheet. An input that can't be read is the bytes so far.
+// Reads a table file on standard input and prints its sheet, or `refused N`. A program has no exit status, so what
+// else there is to know goes to standard error: a message, or `refused` alone.
+use libc::STDERR_FILENO;
+use libc::STDIN_FILENO;
+use libc::STDOUT_FILENO;
+
 fn main() {
     // One byte more than the largest file has.
     let mut input = [0u8; 4653];
-    let read = io::read_full(libc::STDIN_FILENO, &mut input);
-    let text = sheet_text::text_of(&input[..read]);
+    let n = io::read_full(STDIN_FILENO, &mut input);
+    if n < 4653 && !has_ended() {
+        io::write_all(STDERR_FILENO, b"can't read the table file\n");
+        return;
+    }
+    print_sheet(&input[..n]);
+}
+
+// Whether nothing is left to read. A read that fails tells it from the end.
+fn has_ended() -> bool {
+    let mut one = [0u8; 1];
+    libc::read(STDIN_FILENO, &mut one) == 0
+}
+
+fn print_sheet(file: &[u8]) {
+    let text = sheet_text::text_of(file);
     let bytes = text.bytes;
     let len = text.len;
-    io::write_all(libc::STDOUT_FILENO, &bytes[..len]);
+    if !io::write_all(STDOUT_FILENO, &bytes[..len]) {
+        io::write_all(STDERR_FILENO, b"can't write\n");
+    } else if bytes[0] == b'r' {
+        // A sheet begins with `priority`.
+        io::write_all(STDERR_FILENO, b"refused\n");
+    }
 }

@@ -6,10 +6,10 @@ use native.Mathlib.Numerals.{add-one, unary-clauses}
 use native.Mathlib.Omega.{arith}
 use lib.ListN.{length, getD, take, drop, set, replicate, length-append}
 use lib.Seq.{take-suc, take-all, length-take-le, take-append-seam, drop-append-add}
-use Rattle.table_record_writer.specs.Output.{laid}
-use Rattle.table_record_writer.proofs.Laid.{length-laid, none-laid, laid-behind, stores-laid}
+use Rattle.little_endian.specs.Output.{laid}
+use Rattle.little_endian.proofs.Laid.{length-laid, none-laid, laid-behind, stores-laid}
 use Rattle.sheet_text.specs.declared.Text.{Text}
-use Rattle.sheet_text.specs.Fixed.{recordText, Appended}
+use Rattle.sheet_text.specs.Fixed.{textRoom, recordText, Appended}
 
 -- ---- one byte more of a part
 pub none-put : (at : ℕ) (part out : List ℕ) → out ≡ laid at (take 0 part) out
@@ -26,12 +26,12 @@ one-put at i part out x h room e =
     ∙ rw (add-one, take-suc part i 0 h)
 
 -- the whole part
-pub all-put : (t : Text) (i : ℕ) (part x : List ℕ) → i ≤ length part → length part ≤ i → t .len + length part ≤ 524 → x ≡ laid (t .len) (take i part) (t .bytes) →
+pub all-put : (t : Text) (i : ℕ) (part x : List ℕ) → i ≤ length part → length part ≤ i → t .len + length part ≤ textRoom → x ≡ laid (t .len) (take i part) (t .bytes) →
     Appended t (record { bytes = x; len = t .len + i }) part
 all-put t i part x h k room e = record { bytes = e ∙ rw (take-all i part k); len = omega arith; fits = omega arith }
 
 -- ---- one part behind another
-pub then-put : {t x y : Text} {a b : List ℕ} → length (t .bytes) ≡ 524 → Appended t x a → Appended x y b → Appended t y (a ++ b)
+pub then-put : {t x y : Text} {a b : List ℕ} → length (t .bytes) ≡ textRoom → Appended t x a → Appended x y b → Appended t y (a ++ b)
 then-put {t} {x} {y} {a} {b} n p q =
     record {
       bytes = q .bytes ∙ rw (p .bytes) (laid-behind (t .len) (x .len) a b (t .bytes) (p .len) (omega (arith, p .len, q .len, q .fits)));
@@ -52,25 +52,25 @@ pub text-len : (t : Text) (l : List ℕ) → t ≡ recordText l → t .len ≡ l
 unfolding recordText
 text-len t l e = ap (λ (y : Text). y .len) e
 
-text-bytes : (l a : List ℕ) → length l + length a ≤ 524 → laid (length l) a (l ++ replicate (524 - length l) 0) ≡ l ++ a ++ replicate (524 - length (l ++ a)) 0
+text-bytes : (l a : List ℕ) → length l + length a ≤ textRoom → laid (length l) a (l ++ replicate (textRoom - length l) 0) ≡ l ++ a ++ replicate (textRoom - length (l ++ a)) 0
 unfolding laid
 text-bytes l a h =
-    let zeros : List ℕ = replicate (524 - length l) 0 in
-    let n : 524 - length l - length a ≡ 524 - length (l ++ a) = omega (arith, length-append l a) in
-    let behind : drop (length l + length a) (l ++ zeros) ≡ replicate (524 - length (l ++ a)) 0 =
-    drop-append-add l zeros (length a) ∙ drop-zeros (length a) (524 - length l) ∙ ap (λ (k : ℕ). replicate k 0) n in
+    let zeros : List ℕ = replicate (textRoom - length l) 0 in
+    let n : textRoom - length l - length a ≡ textRoom - length (l ++ a) = omega (arith, length-append l a) in
+    let behind : drop (length l + length a) (l ++ zeros) ≡ replicate (textRoom - length (l ++ a)) 0 =
+    drop-append-add l zeros (length a) ∙ drop-zeros (length a) (textRoom - length l) ∙ ap (λ (k : ℕ). replicate k 0) n in
     rw (take-append-seam l zeros, behind)
 
 pub put-text : (t x : Text) (l a : List ℕ) → t ≡ recordText l → Appended t x a → x ≡ recordText (l ++ a)
 unfolding recordText
 put-text t x l a e p =
     let n : t .len ≡ length l = text-len t l e in
-    let start : t .bytes ≡ l ++ replicate (524 - length l) 0 = ap (λ (y : Text). y .bytes) e in
-    let bytes : x .bytes ≡ l ++ a ++ replicate (524 - length (l ++ a)) 0 = p .bytes ∙ rw (n, start) (text-bytes l a (omega (arith, p .len, p .fits))) in
+    let start : t .bytes ≡ l ++ replicate (textRoom - length l) 0 = ap (λ (y : Text). y .bytes) e in
+    let bytes : x .bytes ≡ l ++ a ++ replicate (textRoom - length (l ++ a)) 0 = p .bytes ∙ rw (n, start) (text-bytes l a (omega (arith, p .len, p .fits))) in
     let len : x .len ≡ length (l ++ a) = omega (arith, p .len, length-append l a) in
     (λ i. record { bytes = bytes i; len = len i })
 
 -- so that what is written out is the text
 pub text-within : (t : Text) (l : List ℕ) → t ≡ recordText l → t .len ≤ length (t .bytes)
 unfolding recordText
-text-within t l e = rw e (omega (arith, length-append l (replicate (524 - length l) 0)))
+text-within t l e = rw e (omega (arith, length-append l (replicate (textRoom - length l) 0)))

@@ -14,7 +14,7 @@ use lib.ListN.{length, getD, length-append}
 use borrow.Author.Tests.{eq-eqb, ne-eqb, lt-ltb, le-ltb}
 use Rattle.model.specs.Sheet.{text, numeral, difference, fill, sheetLine, header}
 use Rattle.sheet_text.specs.declared.Text.{Text}
-use Rattle.sheet_text.specs.Fixed.{recordText, Appended, column, signedNumeral, linesTo, tableLines}
+use Rattle.sheet_text.specs.Fixed.{mostLine, recordText, Appended, column, signedNumeral, linesTo, tableLines}
 use Rattle.sheet_text.proofs.Appended.{put-text}
 use Rattle.sheet_text.proofs.Digits.{length-most, length-one}
 use Rattle.sheet_text.proofs.Signed.{difference-printed, difference-few, difference-exact}
@@ -84,7 +84,7 @@ unfolding sheetLine
 line-is priority bound hold size spare e = rw e (simp append-assoc)
 
 pub length-line : (priority bound hold size : ℕ) → priority ≤ 7 → bound ≤ 4_294_967_295 → hold ≤ 4_294_967_295 → size ≤ 4_294_967_295 →
-    length (sheetLine priority bound hold size) ≤ 61
+    length (sheetLine priority bound hold size) ≤ mostLine
 unfolding text
 length-line priority bound hold size h i j k =
     rw (← line-is priority bound hold size (difference size bound) refl)

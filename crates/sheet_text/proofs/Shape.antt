@@ -10,10 +10,11 @@ use denote.Laws.{Is}
 use denote.Struct.Declared.{row}
 use denote.Struct.Field.{u8-field}
 use Rattle.sheet_text.specs.declared.Text.{Text}
+use Rattle.sheet_text.specs.Fixed.{textRoom}
 use Rattle.sheet_text.proofs.Text.{the-type}
 
 pub word : {n : ℕ} → Fits w32 n → n ≤ 4_294_967_295
 word f = omega (arith, f .fits)
 
-pub sized : (t : Text) (vs : List Val) → Is (row the-type) t vs → length (t .bytes) ≡ 524
+pub sized : (t : Text) (vs : List Val) → Is (row the-type) t vs → length (t .bytes) ≡ textRoom
 sized t vs p = sym (length-map (t .bytes) (u8-field .into)) ∙ p .1 .1 .0 .1 .0 .1

@@ -8,10 +8,16 @@ ghost use Rattle.model.specs.Basics.{firstRefusal};
 ghost use Rattle.model.specs.Sheet.{sheet};
 ghost use Rattle.sheet_text.specs.Fixed.{recordText};
 
-// A line has at most 61 bytes: 1 digit for the priority, 10 for each of three 32-bit numbers, 11 for spare, 13 for fill,
-// 5 blanks and the end. The header has 36, so any sheet fits into 36 + 8 × 61. Bytes behind len are 0.
+// The most bytes of a line: 1 digit for the priority, 10 for each of three 32-bit numbers, 11 for spare, 13 for fill,
+// 5 blanks and the end.
+const LINE: usize = 61;
+
+// The header, and a line for each priority.
+pub const ROOM: usize = 36 + 8 * LINE;
+
+// Bytes behind len are 0.
 pub struct Text {
-    pub bytes: [u8; 524],
+    pub bytes: [u8; ROOM],
     pub len: usize,
 }
 

@@ -1,4 +1,5 @@
 // The lines of the sheet.
+use crate::ROOM;
 use crate::Text;
 use crate::numerals;
 ghost use mathlib.Core.Path.{_≡_};
@@ -7,19 +8,19 @@ ghost use Prim.Native.Nat.{_+_, _≤_};
 ghost use lib.IntN.{pos, _-ℤ_};
 ghost use lib.ListN.{length};
 ghost use Rattle.model.specs.Sheet.{numeral, fill, sheetLine};
-ghost use Rattle.sheet_text.specs.Fixed.{recordText, Appended, column, tableLines, refusalLine};
+ghost use Rattle.sheet_text.specs.Fixed.{textRoom, mostLine, recordText, Appended, column, tableLines, refusalLine};
 
 fn blank() -> Text
     ensures { λ r. ⌜ r ≡ recordText [] ⌝ }
 {
     Text {
-        bytes: [0u8; 524],
+        bytes: [0u8; ROOM],
         len: 0,
     }
 }
 
 fn put_column(out: Text, n: u64) -> Text
-    requires { ⌜ out .len + length (numeral n) + 1 ≤ 524 ⌝ }
+    requires { ⌜ out .len + length (numeral n) + 1 ≤ textRoom ⌝ }
     ensures { λ r. ⌜ Appended out r (column n) ⌝ }
 {
     let numbered = numerals::put_numeral(out, n);
@@ -43,7 +44,7 @@ fn per_mille(bound: u32, size: u32) -> u64
 }
 
 fn put_fill(out: Text, bound: u32, size: u32) -> Text
-    requires { ⌜ out .len + 13 ≤ 524 ⌝ }
+    requires { ⌜ out .len + 13 ≤ textRoom ⌝ }
     ensures { λ r. ⌜ Appended out r (fill bound size) ⌝ }
 {
     if size == 0 {
@@ -53,8 +54,8 @@ fn put_fill(out: Text, bound: u32, size: u32) -> Text
 }
 
 fn put_line(out: Text, priority: usize, bound: u32, hold: u32, size: u32) -> Text
-    requires { ⌜ (priority ≤ 7) × (out .len + 61 ≤ 524) ⌝ }
-    ensures { λ r. ⌜ Appended out r (sheetLine priority bound hold size) × (r .len ≤ out .len + 61) ⌝ }
+    requires { ⌜ (priority ≤ 7) × (out .len + mostLine ≤ textRoom) ⌝ }
+    ensures { λ r. ⌜ Appended out r (sheetLine priority bound hold size) × (r .len ≤ out .len + mostLine) ⌝ }
 {
     let out = put_column(out, priority as u64);
     let out = put_column(out, bound as u64);

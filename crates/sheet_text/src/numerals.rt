@@ -4,10 +4,10 @@ ghost use Prim.Native.Nat.{_+_, _≤_};
 ghost use lib.IntN.{natAbs};
 ghost use lib.ListN.{length};
 ghost use Rattle.model.specs.Sheet.{numeral};
-ghost use Rattle.sheet_text.specs.Fixed.{Appended, signedNumeral};
+ghost use Rattle.sheet_text.specs.Fixed.{textRoom, Appended, signedNumeral};
 
 pub(crate) fn put(out: Text, part: &[u8]) -> Text
-    requires { ⌜ out .len + length (now part) ≤ 524 ⌝ }
+    requires { ⌜ out .len + length (now part) ≤ textRoom ⌝ }
     ensures { λ r. ⌜ Appended out r (now (part .entry)) ⌝ }
 {
     let mut bytes = out.bytes;
@@ -22,7 +22,7 @@ pub(crate) fn put(out: Text, part: &[u8]) -> Text
 
 // The lowest digit is found first and stands last.
 pub(crate) fn put_numeral(out: Text, n: u64) -> Text
-    requires { ⌜ out .len + length (numeral n) ≤ 524 ⌝ }
+    requires { ⌜ out .len + length (numeral n) ≤ textRoom ⌝ }
     ensures { λ r. ⌜ Appended out r (numeral n) ⌝ }
 {
     let mut digits = [0u8; 20];
@@ -39,7 +39,7 @@ pub(crate) fn put_numeral(out: Text, n: u64) -> Text
 }
 
 pub(crate) fn put_signed(out: Text, n: i64) -> Text
-    requires { ⌜ (natAbs n ≤ 4294967295) × (out .len + length (signedNumeral n) ≤ 524) ⌝ }
+    requires { ⌜ (natAbs n ≤ 4294967295) × (out .len + length (signedNumeral n) ≤ textRoom) ⌝ }
     ensures { λ r. ⌜ Appended out r (signedNumeral n) ⌝ }
 {
     if n < 0 {

@@ -1,21 +1,20 @@
--- The BAG of each code.
-use mathlib.Core.Path.{_≡_, refl, sym}
+-- The BAG of each code, by the model's law.
+use mathlib.Core.Path.{_≡_, sym, _∙_}
 use mathlib.Core.Logic.{_≢_}
-use Prim.Native.Nat.{ℕ, zero, suc}
+use Prim.Native.Nat.{ℕ, _*_, _^_, _≤_, min}
+use native.Mathlib.Omega.{arith}
 use Rattle.model.specs.Link.{bagOf}
+use Rattle.model.proofs.Bags.{bag-capped}
 
-pub bag-at : (code k n : ℕ) → code ≡ k → bagOf k ≡ n → n ≡ bagOf code
-bag-at code k n e q = rw e (sym q)
+pub bag-at : (code k n : ℕ) → min code 7 ≡ k → n ≡ 12_500 * 2 ^ k → n ≡ bagOf code
+bag-at code k n e q = q ∙ sym (rw e at (bag-capped code))
 
--- a code that is none of the first seven
-pub bag-last : (code : ℕ) → code ≢ 0 → code ≢ 1 → code ≢ 2 → code ≢ 3 → code ≢ 4 → code ≢ 5 → code ≢ 6 → 1_600_000 ≡ bagOf code
-unfolding bagOf
-bag-last zero a b c d e f g = absurd (a refl)
-bag-last (suc zero) a b c d e f g = absurd (b refl)
-bag-last (suc (suc zero)) a b c d e f g = absurd (c refl)
-bag-last (suc (suc (suc zero))) a b c d e f g = absurd (d refl)
-bag-last (suc (suc (suc (suc zero)))) a b c d e f g = absurd (e refl)
-bag-last (suc (suc (suc (suc (suc zero))))) a b c d e f g = absurd (f refl)
-bag-last (suc (suc (suc (suc (suc (suc zero)))))) a b c d e f g = absurd (g refl)
-bag-last (suc (suc (suc (suc (suc (suc (suc zero))))))) a b c d e f g = refl
-bag-last (suc (suc (suc (suc (suc (suc (suc (suc n)))))))) a b c d e f g = refl
+-- a code that is none of the first seven, in two steps
+from-four : (code : ℕ) → code ≢ 0 → code ≢ 1 → code ≢ 2 → code ≢ 3 → 4 ≤ code
+from-four code a b c d = omega arith
+
+above-six : (code : ℕ) → 4 ≤ code → code ≢ 4 → code ≢ 5 → code ≢ 6 → min code 7 ≡ 7
+above-six code h a b c = omega arith
+
+pub bag-last : (code n : ℕ) → code ≢ 0 → code ≢ 1 → code ≢ 2 → code ≢ 3 → code ≢ 4 → code ≢ 5 → code ≢ 6 → n ≡ 12_500 * 2 ^ 7 → n ≡ bagOf code
+bag-last code n a b c d e f g q = bag-at code 7 n (above-six code (from-four code a b c d) e f g) q

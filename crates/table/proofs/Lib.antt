@@ -3,4 +3,5 @@ pub mod Bags
 pub mod Ranges
 pub mod Refusals
 pub mod Links
+pub mod PassingRecord
 pub mod Shown

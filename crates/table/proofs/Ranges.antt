@@ -10,6 +10,7 @@ use borrow.Author.Tests.{le-leb, lt-leb, lt-ltb, le-ltb}
 use lib.ListN.{length, getD, take}
 use lib.Seq.{take-all}
 use Rattle.model.specs.Basics.{allHold, Check, firstMet}
+use Rattle.model.specs.Units.{leastLength, greatestLength}
 use Rattle.model.specs.Link.{VirtualLink}
 use Rattle.model.specs.Table.{countsInRange, fieldsInRange, allAtMost, sizeChecks}
 
@@ -50,18 +51,18 @@ module _ (lines : ℕ) (v : VirtualLink) (number : v .number ≤ 65_535) where
       code-past d = rw (le-leb (v .number) 65_535 number, lt-ltb (v .line) lines a, le-leb (v .priority) 7 b, lt-leb (v .code) 7 d)
 
       module _ (d : v .code ≤ 7) where
-        pub least-below : v .least < 84 → false ≡ fieldsInRange lines v
+        pub least-below : v .least < leastLength → false ≡ fieldsInRange lines v
         unfolding fieldsInRange allHold
-        least-below e = rw (le-leb (v .number) 65_535 number, lt-ltb (v .line) lines a, le-leb (v .priority) 7 b, le-leb (v .code) 7 d, lt-leb 84 (v .least) e)
+        least-below e = rw (le-leb (v .number) 65_535 number, lt-ltb (v .line) lines a, le-leb (v .priority) 7 b, le-leb (v .code) 7 d, lt-leb leastLength (v .least) e)
 
-        module _ (e : 84 ≤ v .least) where
+        module _ (e : leastLength ≤ v .least) where
           pub least-above-greatest : v .greatest < v .least → false ≡ fieldsInRange lines v
           unfolding fieldsInRange allHold
           least-above-greatest f =
-              rw (le-leb (v .number) 65_535 number, lt-ltb (v .line) lines a, le-leb (v .priority) 7 b, le-leb (v .code) 7 d, le-leb 84 (v .least) e, lt-leb (v .least) (v .greatest) f)
+              rw (le-leb (v .number) 65_535 number, lt-ltb (v .line) lines a, le-leb (v .priority) 7 b, le-leb (v .code) 7 d, le-leb leastLength (v .least) e, lt-leb (v .least) (v .greatest) f)
 
           module _ (f : v .least ≤ v .greatest) where
-            pub greatest-past : 1_538 < v .greatest → false ≡ fieldsInRange lines v
+            pub greatest-past : greatestLength < v .greatest → false ≡ fieldsInRange lines v
             unfolding fieldsInRange allHold
             greatest-past g =
                 rw (
@@ -69,12 +70,12 @@ module _ (lines : ℕ) (v : VirtualLink) (number : v .number ≤ 65_535) where
                   lt-ltb (v .line) lines a,
                   le-leb (v .priority) 7 b,
                   le-leb (v .code) 7 d,
-                  le-leb 84 (v .least) e,
+                  le-leb leastLength (v .least) e,
                   le-leb (v .least) (v .greatest) f,
-                  lt-leb (v .greatest) 1_538 g,
+                  lt-leb (v .greatest) greatestLength g,
                 )
 
-            pub jitter-within : v .greatest ≤ 1_538 → leb (v .jitter) 125_000 ≡ fieldsInRange lines v
+            pub jitter-within : v .greatest ≤ greatestLength → leb (v .jitter) 125_000 ≡ fieldsInRange lines v
             unfolding fieldsInRange allHold
             jitter-within g =
                 rw (
@@ -82,9 +83,9 @@ module _ (lines : ℕ) (v : VirtualLink) (number : v .number ≤ 65_535) where
                   lt-ltb (v .line) lines a,
                   le-leb (v .priority) 7 b,
                   le-leb (v .code) 7 d,
-                  le-leb 84 (v .least) e,
+                  le-leb leastLength (v .least) e,
                   le-leb (v .least) (v .greatest) f,
-                  le-leb (v .greatest) 1_538 g,
+                  le-leb (v .greatest) greatestLength g,
                   and-true,
                 )
 

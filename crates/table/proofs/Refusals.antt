@@ -1,6 +1,6 @@
 -- The first check that is met, in lists of checks put together.
-use mathlib.Core.Path.{_≡_, refl, sym, ap, _∙_}
-use mathlib.Core.Bool.{true, false, not}
+use mathlib.Core.Path.{_≡_, refl, sym, _∙_}
+use mathlib.Core.Bool.{true, false}
 use mathlib.Core.Option.{Option, none, some}
 use mathlib.Core.List.{List, _++_}
 use Prim.Native.Nat.{ℕ, zero, suc, _+_, _≤_, _<_}
@@ -9,7 +9,7 @@ use native.Mathlib.Omega.{arith}
 use borrow.Author.Tests.{le-leb, lt-leb}
 use lib.ListN.{length, getD, drop}
 use lib.Seq.{drop-cons}
-use Rattle.model.specs.Basics.{Check, check, firstMet, firstRefusal}
+use Rattle.model.specs.Basics.{Check, firstMet, firstRefusal}
 use Rattle.model.specs.Link.{VirtualLink, blankLink}
 use Rattle.model.specs.Table.{Table, fieldsInRange, notAbove, countsInRange, linkChecks, linksChecks, sizeChecks, tableChecks, tableRefusal}
 use Rattle.model.proofs.Checks.{Numbered, first-append}
@@ -28,12 +28,12 @@ refused-next zero m e = refl
 refused-next (suc n) m e = absurd (omega arith)
 
 -- lists of checks put together: the first that is met in the front, or else in the back
-module _ (front back : List Check) (each : Numbered 9 front) (r : ℕ) (e : r ≡ firstMet front) where
+module _ (front back : List Check) (each : Numbered front) (r : ℕ) (e : r ≡ firstMet front) where
   pub stops-in-front : (r ≡ 0 → ⊥) → r ≡ firstMet (front ++ back)
-  stops-in-front z = sym (first-append 9 front back each ∙ rw (← e) (refused-first r (firstMet back) z))
+  stops-in-front z = sym (first-append front back each ∙ rw (← e) (refused-first r (firstMet back) z))
 
   pub goes-on-behind : r ≡ 0 → firstMet (front ++ back) ≡ firstMet back
-  goes-on-behind z = first-append 9 front back each ∙ rw (← e) (refused-next r (firstMet back) z)
+  goes-on-behind z = first-append front back each ∙ rw (← e) (refused-next r (firstMet back) z)
 
 -- ---- one link
 above-none : (k n p : ℕ) → k ≡ 0 → notAbove n (previousOf k p) ≡ false
@@ -110,8 +110,8 @@ module _ (t : Table) where
     behind-counts = rw e
 
     pub links-bad : (r ≡ 0 → ⊥) → r ≡ tableRefusal t
-    links-bad z = rw behind-counts (stops-in-front (linksChecks (t .lines) none (t .links)) (sizeChecks (t .sizes)) (links-numbered 9 (omega arith) (t .lines) none (t .links)) r q z)
+    links-bad z = rw behind-counts (stops-in-front (linksChecks (t .lines) none (t .links)) (sizeChecks (t .sizes)) (links-numbered (t .lines) none (t .links)) r q z)
 
     pub sizes-last : r ≡ 0 → (s : ℕ) → s ≡ firstMet (sizeChecks (t .sizes)) → s ≡ tableRefusal t
     sizes-last z s p =
-        p ∙ sym (behind-counts ∙ goes-on-behind (linksChecks (t .lines) none (t .links)) (sizeChecks (t .sizes)) (links-numbered 9 (omega arith) (t .lines) none (t .links)) r q z)
+        p ∙ sym (behind-counts ∙ goes-on-behind (linksChecks (t .lines) none (t .links)) (sizeChecks (t .sizes)) (links-numbered (t .lines) none (t .links)) r q z)

@@ -2,6 +2,8 @@
 use crate::Table;
 use crate::VirtualLink;
 use numbers::u8_as_u16;
+use units::GREATEST_LENGTH;
+use units::LEAST_LENGTH;
 ghost use mathlib.Core.Path.{_≡_};
 ghost use mathlib.Core.Bool.{true};
 ghost use mathlib.Core.Option.{none};
@@ -39,13 +41,13 @@ fn fields_in_range(lines: u16, link: VirtualLink) -> bool
     if 7 < link.code {
         return false;
     }
-    if link.least < 84 {
+    if link.least < LEAST_LENGTH {
         return false;
     }
     if link.greatest < link.least {
         return false;
     }
-    if 1538 < link.greatest {
+    if GREATEST_LENGTH < link.greatest {
         return false;
     }
     link.jitter <= 125000

@@ -1,11 +1,11 @@
 // Runs the cases of standard input through the reader, the check and the writer of tables, and prints
 // a line for each. What it must print was computed by reference/, whose src/cases/table.rs has the form
 // of a case: form (1: a file, 2: a record), length in two bytes, as many bytes.
-use fields::byte;
-use fields::four;
-use fields::two;
 use libc::STDIN_FILENO;
 use libc::STDOUT_FILENO;
+use little_endian::read1;
+use little_endian::read2;
+use little_endian::read4;
 use table::Table;
 use table::VirtualLink;
 ghost use Prim.Native.Nat.{_≤_};
@@ -30,7 +30,7 @@ fn next_case() -> bool {
         return false;
     }
     let form = head[0];
-    let length = two(&head, 1) as isize;
+    let length = read2(&head, 1) as isize;
     let mut body = [0u8; ROOM];
     if !take(length, &mut body) {
         return false;
@@ -88,7 +88,7 @@ fn record_case(body: &[u8]) {
     say(b"check ");
     print(table::check(t) as u64);
     let mut output = [0xA5u8; OUTPUT];
-    let length = io::count(two(body, 4) as isize, &output);
+    let length = io::count(read2(body, 4) as isize, &output);
     let writing = table_file::write(t, &mut output[..length]);
     if writing.refused != 0 {
         say(b" refused ");
@@ -104,7 +104,7 @@ fn record_case(body: &[u8]) {
 
 // Lines, count, output length, links given, the links at 13 bytes each, the eight sizes.
 fn record(body: &[u8]) -> Table {
-    let given = least(two(body, 6) as usize, 256);
+    let given = least(read2(body, 6) as usize, 256);
     let blank = VirtualLink {
         line: 0,
         priority: 0,
@@ -116,13 +116,13 @@ fn record(body: &[u8]) -> Table {
     let mut numbers = [0u16; 256];
     let mut links = [blank; 256];
     for i in 0..given {
-        numbers[i] = two(body, 8 + 13 * i);
+        numbers[i] = read2(body, 8 + 13 * i);
         links[i] = link(body, 10 + 13 * i);
     }
     let sizes = sizes(body, 8 + 13 * given);
     Table {
-        lines: two(body, 0),
-        count: two(body, 2),
+        lines: read2(body, 0),
+        count: read2(body, 2),
         numbers: numbers,
         links: links,
         sizes: sizes,
@@ -133,12 +133,12 @@ fn link(body: &[u8], at: usize) -> VirtualLink
     requires { ⌜ at ≤ 65536 ⌝ }
 {
     VirtualLink {
-        line: byte(body, at),
-        priority: byte(body, at + 1),
-        code: byte(body, at + 2),
-        least: two(body, at + 3),
-        greatest: two(body, at + 5),
-        jitter: four(body, at + 7),
+        line: read1(body, at),
+        priority: read1(body, at + 1),
+        code: read1(body, at + 2),
+        least: read2(body, at + 3),
+        greatest: read2(body, at + 5),
+        jitter: read4(body, at + 7),
     }
 }
 
@@ -147,7 +147,7 @@ fn sizes(body: &[u8], at: usize) -> [u32; 8]
 {
     let mut sizes = [0u32; 8];
     for p in 0..8 {
-        sizes[p] = four(body, at + 4 * p);
+        sizes[p] = read4(body, at + 4 * p);
     }
     sizes
 }

@@ -1,6 +1,5 @@
 -- The answer of the writer.
-use mathlib.Core.Path.{_≡_, refl, sym, ap, _∙_}
-use mathlib.Core.Bool.{false}
+use mathlib.Core.Path.{_≡_, refl, sym, _∙_}
 use mathlib.Core.List.{List, [], _∷_, _++_, flatMap}
 use Prim.Native.Nat.{ℕ, zero, suc, _+_, _*_, _≤_, _<_}
 use native.Mathlib.Omega.{arith}
@@ -12,15 +11,18 @@ use Rattle.model.specs.Table.{Table, tableChecks, tableRefusal}
 use Rattle.model.specs.TableFile.{recordBytes, countsBody, sizesBody, tableBytes, fileLength, wroteOr, writeTable}
 use Rattle.model.proofs.Checks.{numbered-append, NoneMet, none-met, none-front, none-back, first-none}
 use Rattle.model.proofs.Lists.{length-flatMap}
-use Rattle.model.proofs.TableFacts.{table-numbered, passes, passes-counts}
+use Rattle.model.proofs.TableFacts.{table-numbered}
 use Rattle.model.proofs.FileWrite.{length-record, length-countsBody, length-sizesBody, length-tableBytes}
 use Rattle.table.specs.declared.Table.{Table as TableRecord}
 use Rattle.table.specs.View.{viewLinks, viewTable}
-use Rattle.table_record_writer.specs.Output.{laid, linkRecord}
+use Rattle.little_endian.specs.Output.{laid}
+use Rattle.table_record_writer.specs.Records.{linkRecord}
 use Rattle.table_file.specs.Answers.{Wrote}
 use Rattle.table.proofs.Shape.{count-shown}
+use Rattle.table.proofs.PassingRecord.{counts-pass}
 use Rattle.table.proofs.Refusals.{stops-in-front, goes-on-behind}
-use Rattle.table_record_writer.proofs.Written.{then-laid, length-linkRecord}
+use Rattle.little_endian.proofs.Laid.{then-laid}
+use Rattle.table_record_writer.proofs.Written.{length-linkRecord}
 
 -- ---- refusals
 stopped : (n r : ℕ) (t : Table) (output : List ℕ) → r ≡ n → (r ≡ 0 → ⊥) → wroteOr n t output ≡ record { refused = r; written = 0; output = output }
@@ -38,12 +40,12 @@ module _ (t : Table) (output : List ℕ) (r : ℕ) (e : r ≡ tableRefusal t) wh
   pub table-refused : (r ≡ 0 → ⊥) → Wrote t output output (record { refused = r; written = 0 })
   unfolding writeTable tableRefusal room
   table-refused z =
-      wrote-none t output r (stopped (firstMet (tableChecks t ++ room)) r t output (stops-in-front (tableChecks t) room (table-numbered 9 (omega arith) t) r e z) z)
+      wrote-none t output r (stopped (firstMet (tableChecks t ++ room)) r t output (stops-in-front (tableChecks t) room (table-numbered t) r e z) z)
 
   module _ (z : r ≡ 0) where
     passed : firstMet (tableChecks t ++ room) ≡ firstMet room
     unfolding tableRefusal
-    passed = goes-on-behind (tableChecks t) room (table-numbered 9 (omega arith) t) r e z
+    passed = goes-on-behind (tableChecks t) room (table-numbered t) r e z
 
     short : length output < fileLength t → 9 ≡ firstMet room
     unfolding room firstMet
@@ -79,7 +81,7 @@ module _ (t : Table) (output : List ℕ) (e : writeTable t output .refused ≡ 0
   unfolding writeTable
   none-refused =
       let last = check 9 (ltb (length output) (fileLength t)) ∷ [] in
-      none-met 9 (tableChecks t ++ last) (numbered-append 9 (tableChecks t) last (table-numbered 9 (omega arith) t) (omega arith)) (not-refused (firstMet (tableChecks t ++ last)) t output e)
+      none-met (tableChecks t ++ last) (numbered-append (tableChecks t) last (table-numbered t) (omega arith)) (not-refused (firstMet (tableChecks t ++ last)) t output e)
 
   pub not-refused-passes : tableRefusal t ≡ 0
   unfolding tableRefusal
@@ -90,10 +92,7 @@ module _ (t : Table) (output : List ℕ) (e : writeTable t output .refused ≡ 0
 
 -- ---- the record's file
 pub count-few : (t : TableRecord) (r : ℕ) → r ≡ tableRefusal (viewTable t) → r ≡ 0 → t .count ≤ 256
-unfolding viewTable
-count-few t r e z =
-    let fit = passes-counts (viewTable t) (passes (viewTable t) (sym e ∙ z)) in
-    omega (arith, fit .links-most, count-shown t)
+count-few t r e z = counts-pass t (sym e ∙ z) .links-most
 
 pub length-shown : (t : TableRecord) → fileLength (viewTable t) ≡ 44 + 18 * t .count
 unfolding viewTable

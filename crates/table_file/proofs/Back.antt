@@ -1,15 +1,13 @@
 -- What reader and writer, one after the other, give.
 use mathlib.Core.Path.{_≡_, sym, ap, _∙_}
 use mathlib.Core.List.{List, _++_}
-use Prim.Native.Nat.{ℕ, _+_, _≤_}
+use Prim.Native.Nat.{ℕ, _≤_}
 use native.Mathlib.Decide.{ℕ-discrete}
 use native.Mathlib.Omega.{arith}
 use lib.ListN.{length, take, drop}
 use lib.Seq.{take-at}
-use Rattle.model.specs.Basics.{entries}
-use Rattle.model.specs.Table.{Table}
 use Rattle.model.specs.TableFile.{tableBytes, fileLength, Writing as ModelWriting, readTable, writeTable}
-use Rattle.model.proofs.TableFacts.{passes, passes-counts}
+use Rattle.model.proofs.Passing.{is-passing}
 use Rattle.model.proofs.FileRead.{refused-blank, read-passes}
 use Rattle.model.proofs.Bytes.{AllBytes}
 use Rattle.model.proofs.FileWrite.{written-length, written-read}
@@ -26,7 +24,7 @@ links-few : (file : List ℕ) → length (readTable file .table .links) ≤ 256
 links-few file = go (ℕ-discrete (readTable file .refused) 0)
   where
     go : Dec (readTable file .refused ≡ 0) → length (readTable file .table .links) ≤ 256
-    go (yes e) = passes-counts (readTable file .table) (passes (readTable file .table) (read-passes file e)) .links-most
+    go (yes e) = is-passing (readTable file .table) (read-passes file e) .counts .links-most
     go (no z) = rw (refused-blank file (omega arith)) (omega arith)
 
 -- the record that is read shows the table that the model reads
@@ -47,7 +45,7 @@ written-back t before after w r wrote z q =
     rw (n, o) (take-at (tableBytes (viewTable t)) (drop (fileLength (viewTable t)) before) (fileLength (viewTable t)) (written-length (viewTable t) pass)) in
     let back : readTable (take (w .written) after) ≡ record { refused = 0; table = viewTable t } = ap readTable file ∙ read-written (viewTable t) pass in
     let same : r ≡ record { refused = 0; table = recordTable (viewTable t) } = q ∙ ap recordReading back in
-    let few : length (viewTable t .links) ≤ 256 = passes-counts (viewTable t) (passes (viewTable t) pass) .links-most in
+    let few : length (viewTable t .links) ≤ 256 = is-passing (viewTable t) pass .counts .links-most in
     let table : r .table ≡ recordTable (viewTable t) = ap (λ (a : ReadingRecord). a .table) same in
     (ap (λ (a : ReadingRecord). a .refused) same, table, ap viewTable table ∙ record-shown (viewTable t) few)
 

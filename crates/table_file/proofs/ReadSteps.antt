@@ -100,7 +100,7 @@ module _ (file : List ℕ) where
 
   counts-pass : counts-met ≡ 0 → NoneMet (headerChecks 1 6 file ++ countChecks (numberAt 4 2 file) (numberAt 6 2 file))
   unfolding counts-met countRecordChecks headerChecks
-  counts-pass z = none-met 9 (countRecordChecks file) (omega arith) z
+  counts-pass z = none-met (countRecordChecks file) (omega arith) z
 
   module _ (x : Record) (lines n : ℕ) (e : said x ≡ dueAt file 0 0 0 0) (q : x ≡ Counts lines n) where
     kind-one : said x .kind ≡ 0 → ⊥

@@ -1,29 +1,27 @@
 -- What the record reader finds, check by check.
 use mathlib.Core.Path.{_≡_, refl, sym, ap, _∙_}
 use mathlib.Core.Bool.{true, false, not}
-use mathlib.Core.Option.{Option, none}
+use mathlib.Core.Option.{Option}
 use mathlib.Core.List.{List, [], _∷_, _++_, append-assoc}
 use Prim.Native.Nat.{ℕ, zero, suc, _+_, _-_, _≤_, _<_}
 use native.Mathlib.Omega.{arith}
-use lib.Dec.{eqb, leb, ltb}
+use lib.Dec.{eqb, ltb}
 use borrow.Author.Tests.{lt-ltb, le-ltb, eq-eqb, ne-eqb, le-leb, lt-leb}
 use lib.ListN.{length, getD}
 use Rattle.model.specs.Basics.{Check, check, firstMet}
 use Rattle.model.specs.Table.{countsInRange, countChecks, linkChecks, sizeChecks}
 use Rattle.model.specs.TableFile.{numberAt, headerChecks, linkRead, sizesRead, countRecordChecks, linkRecordChecks, sizesRecordChecks}
-use Rattle.model.proofs.Checks.{Numbered, none-met}
-use Rattle.model.proofs.FileWrite.{header-fits}
+use Rattle.model.proofs.Checks.{Numbered}
 use Rattle.table.specs.declared.VirtualLink.{VirtualLink as LinkFields}
 use Rattle.table_record_reader.specs.declared.Record.the-variants.{Counts, Link, Sizes, Refused}
 use Rattle.table.specs.Checks.{previousOf}
 use Rattle.table.specs.View.{viewLink, recordLink}
 use Rattle.table_record_reader.specs.Records.{Said, saying, linkValues, said, saidOr, countsDue, linkDue, sizesDue, dueAt}
 use Rattle.table.proofs.Refusals.{stops-in-front, goes-on-behind}
-use Rattle.table_record_reader.proofs.Numbers.{one-read}
 
 -- ---- the header
 module _ (kind len : ℕ) (rest : List ℕ) where
-  pub header-numbered : Numbered 9 (headerChecks kind len rest)
+  pub header-numbered : Numbered (headerChecks kind len rest)
   unfolding headerChecks
   header-numbered = omega arith
 
@@ -49,10 +47,6 @@ module _ (kind len : ℕ) (rest : List ℕ) where
         pub header-due : 2 + len ≤ length rest → 0 ≡ firstMet (headerChecks kind len rest)
         unfolding headerChecks firstMet
         header-due k = rw (le-ltb (length rest) 4 h, eq-eqb (numberAt 0 2 rest) len e, eq-eqb (numberAt 2 2 rest) kind f, le-ltb (length rest) (2 + len) k)
-
--- the body is there
-pub body-there : (kind len : ℕ) (rest : List ℕ) (r : ℕ) → r ≡ firstMet (headerChecks kind len rest) → r ≡ 0 → 2 + len ≤ length rest
-body-there kind len rest r e z = header-fits kind len rest (none-met 9 (headerChecks kind len rest) (header-numbered kind len rest) (sym e ∙ z)) .body
 
 -- ---- a refusal, or the record
 said-refused : (n r : ℕ) (next : Said) → r ≡ n → (r ≡ 0 → ⊥) → said (Refused r) ≡ saidOr n next
@@ -96,12 +90,13 @@ module _ (rest : List ℕ) (r : ℕ) (e : r ≡ firstMet (headerChecks 1 6 rest)
     counts-in b = rw (el, en) (said-next (firstMet (headerChecks 1 6 rest ++ counts)) (saying 1 (numberAt 4 2 rest ∷ numberAt 6 2 rest ∷ [])) (behind ∙ in-none b))
 
 -- ---- a link
-pub fields-read : (rest : List ℕ) (least greatest jitter : ℕ) → 18 ≤ length rest → least ≡ numberAt 10 2 rest → greatest ≡ numberAt 12 2 rest → jitter ≡ numberAt 14 4 rest →
+pub fields-read : (rest : List ℕ) (line priority code least greatest jitter : ℕ) → line ≡ numberAt 6 1 rest → priority ≡ numberAt 7 1 rest → code ≡ numberAt 8 1 rest →
+    least ≡ numberAt 10 2 rest → greatest ≡ numberAt 12 2 rest → jitter ≡ numberAt 14 4 rest →
     _≡_ {A = LinkFields}
-    (record { line = getD rest 6 0; priority = getD rest 7 0; code = getD rest 8 0; least = least; greatest = greatest; jitter = jitter })
+    (record { line = line; priority = priority; code = code; least = least; greatest = greatest; jitter = jitter })
     (recordLink (linkRead rest))
 unfolding linkRead
-fields-read rest least greatest jitter h a b d = rw (one-read 6 rest (omega arith), one-read 7 rest (omega arith), one-read 8 rest (omega arith), a, b, d)
+fields-read rest line priority code least greatest jitter a b c d e f = rw (a, b, c, d, e, f)
 
 link-whole : (rest : List ℕ) (number : ℕ) (v : LinkFields) → number ≡ numberAt 4 2 rest → v ≡ recordLink (linkRead rest) → viewLink number v ≡ linkRead rest
 unfolding linkRead
@@ -122,23 +117,20 @@ module _ (lines : ℕ) (previous : Option ℕ) (rest : List ℕ) (r : ℕ) (e : 
     behind-header : firstMet (headerChecks 2 16 rest ++ body) ≡ firstMet body
     behind-header = goes-on-behind (headerChecks 2 16 rest) body (header-numbered 2 16 rest) r e z
 
-    zero-byte : getD rest 9 0 ≡ numberAt 9 1 rest
-    zero-byte = one-read 9 rest (let k = body-there 2 16 rest r e z in omega arith)
-
-    byte-met : (getD rest 9 0 ≡ 0 → ⊥) → 4 ≡ firstMet body
+    byte-met : (numberAt 9 1 rest ≡ 0 → ⊥) → 4 ≡ firstMet body
     unfolding body firstMet
-    byte-met w = rw (ne-eqb (numberAt 9 1 rest) 0 (λ q. w (zero-byte ∙ q)))
+    byte-met w = rw (ne-eqb (numberAt 9 1 rest) 0 w)
 
-    pub byte-set : (getD rest 9 0 ≡ 0 → ⊥) → said (Refused 4) ≡ linkDue lines previous rest
+    pub byte-set : (numberAt 9 1 rest ≡ 0 → ⊥) → said (Refused 4) ≡ linkDue lines previous rest
     unfolding linkDue linkRecordChecks body
     byte-set w = said-refused (firstMet (headerChecks 2 16 rest ++ body)) 4 _ (byte-met w ∙ sym behind-header) (λ q. omega arith)
 
-    module _ (w : getD rest 9 0 ≡ 0) (number : ℕ) (v : LinkFields) (a : number ≡ numberAt 4 2 rest) (b : v ≡ recordLink (linkRead rest))
+    module _ (w : numberAt 9 1 rest ≡ 0) (number : ℕ) (v : LinkFields) (a : number ≡ numberAt 4 2 rest) (b : v ≡ recordLink (linkRead rest))
         (s : ℕ) (f : s ≡ firstMet (linkChecks lines previous (viewLink number v))) where
       behind-byte : s ≡ firstMet (headerChecks 2 16 rest ++ body)
       unfolding body firstMet
       behind-byte =
-          f ∙ sym (behind-header ∙ rw (eq-eqb (numberAt 9 1 rest) 0 (sym zero-byte ∙ w)) (ap (λ u. firstMet (linkChecks lines previous u)) (sym (link-whole rest number v a b))))
+          f ∙ sym (behind-header ∙ rw (eq-eqb (numberAt 9 1 rest) 0 w) (ap (λ u. firstMet (linkChecks lines previous u)) (sym (link-whole rest number v a b))))
 
       pub link-out : (s ≡ 0 → ⊥) → said (Refused s) ≡ linkDue lines previous rest
       unfolding linkDue linkRecordChecks body

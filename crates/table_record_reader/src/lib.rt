@@ -1,12 +1,11 @@
 // Internal to the product: the record reader of the table file: what the bytes not yet read begin with, told what is due.
-mod bytes;
-
+use little_endian::read1;
+use little_endian::read2;
+use little_endian::read4;
 use numbers::u16_as_usize;
 use table::VirtualLink;
 use table::checks;
 ghost use mathlib.Core.Path.{_≡_};
-ghost use Prim.Native.Nat.{_+_, _≤_};
-ghost use lib.ListN.{length};
 ghost use Rattle.model.specs.Basics.{firstMet};
 ghost use Rattle.model.specs.TableFile.{headerChecks, linkRead, sizesRead};
 ghost use Rattle.table.specs.Checks.{previousOf};
@@ -28,10 +27,10 @@ fn header_refusal(rest: &[u8], kind: u16, len: u16) -> u32
     if rest.len() < 4 {
         return 1;
     }
-    if bytes::number2(rest, 0) != len {
+    if read2(rest, 0) != len {
         return 2;
     }
-    if bytes::number2(rest, 2) != kind {
+    if read2(rest, 2) != kind {
         return 2;
     }
     if rest.len() < 2 + u16_as_usize(len) {
@@ -47,8 +46,8 @@ fn counts_at(rest: &[u8]) -> Record
     if refused != 0 {
         return Record::Refused(refused);
     }
-    let lines = bytes::number2(rest, 4);
-    let count = bytes::number2(rest, 6);
+    let lines = read2(rest, 4);
+    let count = read2(rest, 6);
     if !checks::counts_in_range(lines, count) {
         return Record::Refused(3);
     }
@@ -56,16 +55,15 @@ fn counts_at(rest: &[u8]) -> Record
 }
 
 fn link_fields(rest: &[u8]) -> VirtualLink
-    requires { ⌜ 18 ≤ length (now rest) ⌝ }
     ensures { λ r. ⌜ r ≡ recordLink (linkRead (now (rest .entry))) ⌝ }
 {
     VirtualLink {
-        line: rest[6],
-        priority: rest[7],
-        code: rest[8],
-        least: bytes::number2(rest, 10),
-        greatest: bytes::number2(rest, 12),
-        jitter: bytes::number4(rest, 14),
+        line: read1(rest, 6),
+        priority: read1(rest, 7),
+        code: read1(rest, 8),
+        least: read2(rest, 10),
+        greatest: read2(rest, 12),
+        jitter: read4(rest, 14),
     }
 }
 
@@ -76,10 +74,10 @@ fn link_at(rest: &[u8], before: usize, lines: u16, previous: u16) -> Record
     if header != 0 {
         return Record::Refused(header);
     }
-    if rest[9] != 0 {
+    if read1(rest, 9) != 0 {
         return Record::Refused(4);
     }
-    let number = bytes::number2(rest, 4);
+    let number = read2(rest, 4);
     let link = link_fields(rest);
     let refused = checks::link_refusal(lines, before, previous, number, link);
     if refused != 0 {
@@ -89,18 +87,17 @@ fn link_at(rest: &[u8], before: usize, lines: u16, previous: u16) -> Record
 }
 
 fn sizes_read(rest: &[u8]) -> [u32; 8]
-    requires { ⌜ 36 ≤ length (now rest) ⌝ }
     ensures { λ r. ⌜ r ≡ sizesRead (now (rest .entry)) ⌝ }
 {
     [
-        bytes::number4(rest, 4),
-        bytes::number4(rest, 8),
-        bytes::number4(rest, 12),
-        bytes::number4(rest, 16),
-        bytes::number4(rest, 20),
-        bytes::number4(rest, 24),
-        bytes::number4(rest, 28),
-        bytes::number4(rest, 32),
+        read4(rest, 4),
+        read4(rest, 8),
+        read4(rest, 12),
+        read4(rest, 16),
+        read4(rest, 20),
+        read4(rest, 24),
+        read4(rest, 28),
+        read4(rest, 32),
     ]
 }
 

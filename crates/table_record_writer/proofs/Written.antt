@@ -1,27 +1,25 @@
 -- The records of a table file as they are laid down.
 use mathlib.Core.Path.{_≡_, refl, ap, _∙_}
 use mathlib.Core.List.{List, [], _∷_, _++_, flatMap, append-assoc, append-nil}
-use Prim.Native.Nat.{ℕ, suc, _+_, _-_, _*_, _≤_, _<_}
+use Prim.Native.Nat.{ℕ, _+_, _-_, _*_, _≤_, _<_}
 use native.Mathlib.Numerals.{add-one}
 use native.Mathlib.Omega.{arith}
 use lib.ListN.{length, getD, take, drop, length-append}
 use lib.Seq.{take-suc, take-all, length-take-le}
 use Rattle.model.specs.Link.{VirtualLink}
+use Rattle.model.specs.Digits.{digitsOf}
 use Rattle.model.specs.TableFile.{toBytes, recordBytes, countsBody, linkBody}
 use Rattle.model.proofs.FileWrite.{length-record, length-linkBody}
 use Rattle.model.proofs.Lists.{length-flatMap}
 use Rattle.model.proofs.Bytes.{length-toBytes}
-use Rattle.table_record_writer.specs.Output.{laid, linkRecord}
-use Rattle.table_record_writer.proofs.Laid.{length-laid, none-laid, laid-behind, laid-in-part}
-
--- bytes that are laid down behind bytes
-pub then-laid : (at n : ℕ) (a b output x y : List ℕ) → n ≡ at + length a → n + length b ≤ length output → x ≡ laid at a output → y ≡ laid n b x → y ≡ laid at (a ++ b) output
-then-laid at n a b output x y e h p q = q ∙ ap (laid n b) p ∙ laid-behind at n a b output e h
+use Rattle.little_endian.specs.Output.{laid}
+use Rattle.little_endian.proofs.Laid.{length-laid, none-laid, laid-behind, laid-in-part, then-laid}
+use Rattle.table_record_writer.specs.Records.{linkRecord}
 
 -- ---- header and bodies
 pub header-laid : (at len kind : ℕ) (output x y : List ℕ) → at + 4 ≤ length output → x ≡ laid at (toBytes 2 len) output → y ≡ laid (at + 2) (toBytes 2 kind) x →
     y ≡ laid at (toBytes 2 len ++ toBytes 2 kind) output
-unfolding toBytes
+unfolding digitsOf
 header-laid at len kind output x y h p q = then-laid at (at + 2) (toBytes 2 len) (toBytes 2 kind) output x y refl (omega arith) p q
 
 pub counts-laid : (lines n : ℕ) (output x y : List ℕ) → 4 ≤ length output → x ≡ laid 0 (toBytes 2 lines) output → y ≡ laid 2 (toBytes 2 n) x → y ≡ laid 0 (countsBody lines n) output
@@ -31,7 +29,7 @@ counts-laid lines n output x y h p q = header-laid 0 lines n output x y h p q
 module _ (v : VirtualLink) (output a b c d e f g j : List ℕ) (room : 14 ≤ length output) where
   pub link-laid : a ≡ laid 0 (toBytes 2 (v .number)) output → b ≡ laid 2 (toBytes 1 (v .line)) a → c ≡ laid 3 (toBytes 1 (v .priority)) b → d ≡ laid 4 (toBytes 1 (v .code)) c →
       e ≡ laid 5 (toBytes 1 0) d → f ≡ laid 6 (toBytes 2 (v .least)) e → g ≡ laid 8 (toBytes 2 (v .greatest)) f → j ≡ laid 10 (toBytes 4 (v .jitter)) g → j ≡ laid 0 (linkBody v) output
-  unfolding linkBody toBytes
+  unfolding linkBody digitsOf
   link-laid pa pb pc pd pe pf pg pj =
       let n = toBytes 2 (v .number) in
       let l = n ++ toBytes 1 (v .line) in

@@ -1,6 +1,7 @@
 // Internal to the product: the records of the table file, each laid down as length, kind and body.
-mod bytes;
-
+use little_endian::write1;
+use little_endian::write2;
+use little_endian::write4;
 use table::Table;
 use table::VirtualLink;
 ghost use mathlib.Core.Path.{_≡_};
@@ -8,37 +9,38 @@ ghost use mathlib.Core.List.{_++_, flatMap};
 ghost use Prim.Native.Nat.{_+_, _*_, _≤_};
 ghost use lib.ListN.{length};
 ghost use Rattle.model.specs.TableFile.{toBytes, recordBytes, countsBody, linkBody, sizesBody};
+ghost use Rattle.little_endian.specs.Output.{laid};
 ghost use Rattle.table.specs.View.{viewLink, viewLinks};
-ghost use Rattle.table_record_writer.specs.Output.{laid, linkRecord};
+ghost use Rattle.table_record_writer.specs.Records.{linkRecord};
 
 fn header(out: &mut [u8], at: usize, len: u16, kind: u16)
     requires { ⌜ at + 4 ≤ length (now out) ⌝ }
     ensures { λ _. ⌜ now (out .exit) ≡ laid at (toBytes 2 len ++ toBytes 2 kind) (now (out .entry)) ⌝ }
 {
-    bytes::put2(out, at, len);
-    bytes::put2(out, at + 2, kind);
+    write2(out, at, len);
+    write2(out, at + 2, kind);
 }
 
 fn counts_body(out: &mut [u8], lines: u16, count: u16)
     requires { ⌜ 4 ≤ length (now out) ⌝ }
     ensures { λ _. ⌜ now (out .exit) ≡ laid 0 (countsBody lines count) (now (out .entry)) ⌝ }
 {
-    bytes::put2(out, 0, lines);
-    bytes::put2(out, 2, count);
+    write2(out, 0, lines);
+    write2(out, 2, count);
 }
 
 fn link_body(out: &mut [u8], number: u16, link: VirtualLink)
     requires { ⌜ 14 ≤ length (now out) ⌝ }
     ensures { λ _. ⌜ now (out .exit) ≡ laid 0 (linkBody (viewLink number link)) (now (out .entry)) ⌝ }
 {
-    bytes::put2(out, 0, number);
-    bytes::put1(out, 2, link.line);
-    bytes::put1(out, 3, link.priority);
-    bytes::put1(out, 4, link.code);
-    bytes::put1(out, 5, 0);
-    bytes::put2(out, 6, link.least);
-    bytes::put2(out, 8, link.greatest);
-    bytes::put4(out, 10, link.jitter);
+    write2(out, 0, number);
+    write1(out, 2, link.line);
+    write1(out, 3, link.priority);
+    write1(out, 4, link.code);
+    write1(out, 5, 0);
+    write2(out, 6, link.least);
+    write2(out, 8, link.greatest);
+    write4(out, 10, link.jitter);
 }
 
 fn sizes_body(out: &mut [u8], sizes: [u32; 8])
@@ -47,7 +49,7 @@ fn sizes_body(out: &mut [u8], sizes: [u32; 8])
 {
     let mut p: usize = 0;
     while p < 8 {
-        bytes::put4(out, 4 * p, sizes[p]);
+        write4(out, 4 * p, sizes[p]);
         p += 1;
     }
 }

@@ -1,9 +1,11 @@
-//! The case of the program replay: a table file, a file of reports, and what is printed.
+//! The case of the program replay: a table file, a file of reports, and what is printed. The program reads 200 reports
+//! at a time, and this file has more than twice as many.
 
 use super::make::table_of;
 use super::Files;
 use crate::examples::link;
 use crate::port::{Arrival, Report, LAST_TICK};
+use crate::random::Random;
 use crate::replay::{bytes_of, replay};
 use crate::table::{self, Link, Table};
 
@@ -28,8 +30,7 @@ fn frame(tick: u64, line: u64, number: u64, length: u64) -> Report {
 }
 
 /// Each verdict, departures of none, one and several frames, and the refusals 11 to 15.
-fn reports() -> Vec<Report> {
-    let last = LAST_TICK;
+fn each_answer() -> Vec<Report> {
     vec![
         wait(0),
         frame(83, 0, 10, 84),
@@ -57,12 +58,38 @@ fn reports() -> Vec<Report> {
         frame(17_500, 0, 10, 1_539),
         frame(17_500, u64::MAX, u64::MAX, u64::MAX),
         wait(17_499),
-        wait(last + 1),
+        wait(LAST_TICK + 1),
         frame(u64::MAX, 0, 10, 500),
         frame(30_000, 0, 10, 500),
         frame(30_000, 1, 30, 1_000),
         frame(30_000, 2, 40, 200),
         wait(32_000),
+    ]
+}
+
+/// Two waits, a frame of no link and one of each link, in a BAG of the shortest code: too often for two of the links.
+/// The last frames come together, so that some are held when the next round begins.
+fn round(random: &mut Random, start: u64) -> Vec<Report> {
+    vec![
+        wait(start + random.from(0, 300)),
+        wait(start + random.from(400, 3_000)),
+        frame(start + 9_000, 2, 65_535, 700),
+        frame(start + 9_500, 0, 11, 84),
+        frame(start + 10_700, 1, 20, random.from(100, 1_538)),
+        frame(start + 12_200, 2, 40, random.from(84, 600)),
+        frame(start + 12_250, 0, 10, random.from(300, 500)),
+        frame(start + 12_300, 1, 30, random.from(500, 1_000)),
+    ]
+}
+
+fn rounds() -> Vec<Report> {
+    let mut random = Random::new(2_024_011);
+    (0..52).flat_map(|i| round(&mut random, 40_000 + 12_500 * i)).collect()
+}
+
+fn end_of_time() -> Vec<Report> {
+    let last = LAST_TICK;
+    vec![
         wait(last - 1_000),
         frame(last - 500, 0, 65_546, 500),
         frame(last, 0, 10, 500),
@@ -70,6 +97,10 @@ fn reports() -> Vec<Report> {
         frame(last, 1, 20, 1_400),
         frame(last, 2, 40, 600),
     ]
+}
+
+fn reports() -> Vec<Report> {
+    [each_answer(), rounds(), end_of_time()].concat()
 }
 
 /// The files of the program's folder.
@@ -84,6 +115,22 @@ pub fn files() -> Files {
 #[cfg(test)]
 mod tests {
     use super::*;
+    use crate::port::{fresh, MOST_FRAMES};
+
+    /// "200 reports": what the program reads at a time.
+    const PART: usize = 200;
+
+    #[test]
+    fn frames_are_held_from_part_to_part() {
+        let reports = reports();
+        assert!(reports.len() > 2 * PART);
+        let mut port = fresh(&table()).expect("a good table");
+        let mut list = [0; 3 * 8 * MOST_FRAMES];
+        for (i, report) in reports.iter().enumerate() {
+            assert!(i == 0 || i % PART != 0 || port.frames_held() > 1, "{i}");
+            let _ = port.report(report, &mut list);
+        }
+    }
 
     #[test]
     fn there_is_each_kind_of_answer() {

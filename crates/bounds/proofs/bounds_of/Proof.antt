@@ -3,7 +3,7 @@ use Prim.Native.Nat.{_-_, _≤_}
 use borrow.Author.Needs.{needs}
 use native.Mathlib.Omega.{arith}
 use Rattle.table.specs.View.{viewTable}
-use Rattle.bounds.proofs.Answering.{fit-table, Known, known-none, known-more, table-refused, hold-refused, all-known}
+use Rattle.bounds.proofs.Answering.{Known, known-none, known-more, table-refused, hold-refused, all-known}
 use Rattle.bounds.proofs.bounds_of.Statement.{statement}
 use Rattle.bounds.proofs.bounds_of.Tie as tie
 
@@ -32,9 +32,8 @@ cast-limits-of c = omega arith
 
 limits-of-requires : tie.Need-limits-of-requires Inv-loop μ-loop
 limits-of-requires c κs =
-    let s = c .before .before .before .before in
     let k = c .before .before .before .check in
-    (fit-table (s .args .t) _ (s .good .0) (sym (k .ensures) ∙ c .before .before .if1 .left), omega arith)
+    (sym (k .ensures) ∙ c .before .before .if1 .left, omega arith)
 
 refused-requires-2 : tie.Need-refused-requires-2 Inv-loop μ-loop
 refused-requires-2 c κs = search needs

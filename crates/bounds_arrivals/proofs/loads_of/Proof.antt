@@ -5,8 +5,9 @@ use borrow.Author.Needs.{needs}
 use native.Mathlib.Omega.{arith}
 use lib.ListN.{take}
 use Rattle.table.specs.View.{viewLinks}
+use Rattle.table.proofs.PassingRecord.{counts-pass, entry-fits}
 use Rattle.bounds_arrivals.specs.Loads.{between, less, Loaded}
-use Rattle.bounds_arrivals.proofs.Fitting.{product-few}
+use Rattle.bounds_arrivals.proofs.Fitting.{product-few, line-in}
 use Rattle.bounds_arrivals.proofs.Loading.{loadsOf, load-none, load-skip, load-step, sum-fits, load-all}
 use Rattle.bounds_arrivals.proofs.loads_of.Statement.{statement}
 use Rattle.bounds_arrivals.proofs.loads_of.Tie as tie
@@ -29,7 +30,7 @@ mul-l : tie.Need-mul-l Inv-loop μ-loop
 mul-l c = omega arith
 
 element-copy-out-l : tie.Need-element-copy-out-l Inv-loop μ-loop
-element-copy-out-l c = omega arith
+element-copy-out-l c = omega (arith, counts-pass (c .before .before .before .args .t1) (c .before .before .before .pre .0) .links-most)
 
 member-requires : tie.Need-member-requires Inv-loop μ-loop
 member-requires c κs = search needs
@@ -44,26 +45,29 @@ excess-requires : tie.Need-excess-requires Inv-loop μ-loop
 excess-requires c κs = search needs
 
 mul-sums : tie.Need-mul-sums Inv-loop μ-loop
-mul-sums c = omega (arith, c .before .before .before .before .before .before .before .before .before .pre .0 .each (c .before .before .before .before .before .before .before .loop .i) (omega arith) .line)
+mul-sums c = omega (arith, line-in (c .before .before .before .before .before .before .before .before .before .args .t1) (c .before .before .before .before .before .before .before .before .before .pre .0) (c .before .before .before .before .before .before .before .loop .i) (omega arith))
 
 array-read-sums : tie.Need-array-read-sums Inv-loop μ-loop
-array-read-sums c = omega (arith, c .before .before .before .before .before .before .before .before .before .pre .0 .each (c .before .before .before .before .before .before .before .loop .i) (omega arith) .line)
+array-read-sums c = omega (arith, line-in (c .before .before .before .before .before .before .before .before .before .args .t1) (c .before .before .before .before .before .before .before .before .before .pre .0) (c .before .before .before .before .before .before .before .loop .i) (omega arith))
 
 frames-requires : tie.Need-frames-requires Inv-loop μ-loop
-frames-requires c κs = (c .before .before .before .before .before .before .before .before .before .pre .0 .each (c .before .before .before .before .before .before .before .loop .i) (omega arith), c .before .before .before .before .before .before .before .before .before .pre .1)
+frames-requires c κs =
+    let s = c .before .before .before .before .before .before .before .before .before in
+    let f = entry-fits (s .args .t1) (s .pre .0) (c .before .before .before .before .before .before .before .loop .i) (omega arith) in
+    (f .code-most, f .jitter-most, s .pre .1)
 
 mul-sums-2 : tie.Need-mul-sums-2 Inv-loop μ-loop
 mul-sums-2 c =
     let s = c .before .before .before .before .before .before .before .before .before .before in
     let o = c .before .before .before .before .before .before .before .before .loop in
-    let x : c .before .excess .result ≤ 1_538 = omega (arith, s .pre .0 .each (o .i) (omega arith) .greatest) in
+    let x : c .before .excess .result ≤ 1_538 = omega (arith, entry-fits (s .args .t1) (s .pre .0) (o .i) (omega arith) .greatest-most) in
     omega (arith, product-few (c .before .excess .result) (c .frames .result) x (c .frames .ensures .1))
 
 add-sums : tie.Need-add-sums Inv-loop μ-loop
 add-sums c =
     let s = c .before .before .before .before .before .before .before .before .before .before in
     let o = c .before .before .before .before .before .before .before .before .loop in
-    let x : c .before .excess .result ≤ 1_538 = omega (arith, s .pre .0 .each (o .i) (omega arith) .greatest) in
+    let x : c .before .excess .result ≤ 1_538 = omega (arith, entry-fits (s .args .t1) (s .pre .0) (o .i) (omega arith) .greatest-most) in
     omega (
       arith,
       product-few (c .before .excess .result) (c .frames .result) x (c .frames .ensures .1),
@@ -71,25 +75,25 @@ add-sums c =
     )
 
 mul-sums-3 : tie.Need-mul-sums-3 Inv-loop μ-loop
-mul-sums-3 c = omega (arith, c .before .before .before .before .before .before .before .before .before .before .pre .0 .each (c .before .before .before .before .before .before .before .before .loop .i) (omega arith) .line)
+mul-sums-3 c = omega (arith, line-in (c .before .before .before .before .before .before .before .before .before .before .args .t1) (c .before .before .before .before .before .before .before .before .before .before .pre .0) (c .before .before .before .before .before .before .before .before .loop .i) (omega arith))
 
 array-write-sums : tie.Need-array-write-sums Inv-loop μ-loop
-array-write-sums c = omega (arith, c .before .before .before .before .before .before .before .before .before .before .pre .0 .each (c .before .before .before .before .before .before .before .before .loop .i) (omega arith) .line)
+array-write-sums c = omega (arith, line-in (c .before .before .before .before .before .before .before .before .before .before .args .t1) (c .before .before .before .before .before .before .before .before .before .before .pre .0) (c .before .before .before .before .before .before .before .before .loop .i) (omega arith))
 
 mul-larger : tie.Need-mul-larger Inv-loop μ-loop
-mul-larger c = omega (arith, c .before .before .before .before .before .before .before .before .before .before .pre .0 .each (c .before .before .before .before .before .before .before .before .loop .i) (omega arith) .line)
+mul-larger c = omega (arith, line-in (c .before .before .before .before .before .before .before .before .before .before .args .t1) (c .before .before .before .before .before .before .before .before .before .before .pre .0) (c .before .before .before .before .before .before .before .before .loop .i) (omega arith))
 
 array-read-larger : tie.Need-array-read-larger Inv-loop μ-loop
-array-read-larger c = omega (arith, c .before .before .before .before .before .before .before .before .before .before .pre .0 .each (c .before .before .before .before .before .before .before .before .loop .i) (omega arith) .line)
+array-read-larger c = omega (arith, line-in (c .before .before .before .before .before .before .before .before .before .before .args .t1) (c .before .before .before .before .before .before .before .before .before .before .pre .0) (c .before .before .before .before .before .before .before .before .loop .i) (omega arith))
 
 larger-requires : tie.Need-larger-requires Inv-loop μ-loop
 larger-requires c κs = search needs
 
 mul-tops : tie.Need-mul-tops Inv-loop μ-loop
-mul-tops c = omega (arith, c .before .before .before .before .before .before .before .before .before .before .before .pre .0 .each (c .before .before .before .before .before .before .before .before .before .loop .i) (omega arith) .line)
+mul-tops c = omega (arith, line-in (c .before .before .before .before .before .before .before .before .before .before .before .args .t1) (c .before .before .before .before .before .before .before .before .before .before .before .pre .0) (c .before .before .before .before .before .before .before .before .before .loop .i) (omega arith))
 
 array-write-tops : tie.Need-array-write-tops Inv-loop μ-loop
-array-write-tops c = omega (arith, c .before .before .before .before .before .before .before .before .before .before .before .pre .0 .each (c .before .before .before .before .before .before .before .before .before .loop .i) (omega arith) .line)
+array-write-tops c = omega (arith, line-in (c .before .before .before .before .before .before .before .before .before .before .before .args .t1) (c .before .before .before .before .before .before .before .before .before .before .before .pre .0) (c .before .before .before .before .before .before .before .before .before .loop .i) (omega arith))
 
 add-i : tie.Need-add-i Inv-loop μ-loop
 add-i c = omega arith

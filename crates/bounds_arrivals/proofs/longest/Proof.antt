@@ -6,6 +6,7 @@ use native.Mathlib.Omega.{arith}
 use lib.ListN.{take}
 use Rattle.model.specs.Link.{greatestOver}
 use Rattle.table.specs.View.{viewLinks}
+use Rattle.table.proofs.PassingRecord.{counts-pass, entry-fits}
 use Rattle.bounds_arrivals.specs.Loads.{between}
 use Rattle.bounds_arrivals.proofs.Loading.{longest-none, longest-skip, longest-step, longest-all}
 use Rattle.bounds_arrivals.proofs.longest.Statement.{statement}
@@ -27,7 +28,7 @@ mul-l : tie.Need-mul-l Inv-loop μ-loop
 mul-l c = omega arith
 
 element-copy-out-l : tie.Need-element-copy-out-l Inv-loop μ-loop
-element-copy-out-l c = omega arith
+element-copy-out-l c = omega (arith, counts-pass (c .before .before .before .args .t1) (c .before .before .before .pre) .links-most)
 
 member-requires : tie.Need-member-requires Inv-loop μ-loop
 member-requires c κs = search needs
@@ -49,7 +50,7 @@ loop-again c =
     let s = c .before .before .before .before .before .before in
     let o = c .before .before .before .before .loop in
     let e = c .before .member .ensures in
-    let f = s .pre .each (o .i) (omega arith) .greatest in
+    let f = entry-fits (s .args .t1) (s .pre) (o .i) (omega arith) .greatest-most in
     ⊎-elim
     (λ y. (
       omega arith,

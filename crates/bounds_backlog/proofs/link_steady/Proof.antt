@@ -1,5 +1,5 @@
 use native.Mathlib.Omega.{arith}
-use Rattle.bounds_arrivals.proofs.Fitting.{bag-fits}
+use Rattle.model.proofs.Bags.{bag-most}
 use Rattle.bounds_backlog.proofs.Steadiness.{past-window, link-steady, link-out, product-fits}
 use borrow.Author.Needs.{needs}
 use Rattle.bounds_backlog.proofs.link_steady.Statement.{statement}
@@ -8,7 +8,7 @@ use Rattle.bounds_backlog.proofs.link_steady.Tie as tie
 returns : tie.Need-returns
 returns c =
     let s = c .before .before in
-    link-out (s .args .l) (s .args .high) (s .args .w) (s .pre .1) (c .if1 .taken)
+    link-out (s .args .l) (s .args .high) (s .args .w) (s .pre .2) (c .if1 .taken)
 
 frames-requires : tie.Need-frames-requires
 frames-requires c κs = search needs
@@ -19,7 +19,7 @@ bag-requires c κs = search needs
 mul-result : tie.Need-mul-result
 mul-result c =
     let n = c .before .frames in
-    omega (arith, product-fits (n .result) (c .bag .result) (n .ensures .1) (omega (arith, bag-fits (c .before .before .before .before .args .l .code) .most)))
+    omega (arith, product-fits (n .result) (c .bag .result) (n .ensures .1) (omega (arith, bag-most (c .before .before .before .before .args .l .code))))
 
 u32-as-u64-requires : tie.Need-u32-as-u64-requires
 u32-as-u64-requires c κs = search needs

@@ -3,6 +3,7 @@ use Prim.Native.Nat.{_-_, _≤_}
 use borrow.Author.Needs.{needs}
 use native.Mathlib.Omega.{arith}
 use Rattle.table.specs.View.{viewLinks}
+use Rattle.table.proofs.PassingRecord.{counts-pass, entry-fits}
 use Rattle.bounds_arrivals.specs.Loads.{between}
 use Rattle.bounds_backlog.specs.Stretches.{Steady}
 use Rattle.bounds_backlog.proofs.Steadiness.{steady-step}
@@ -25,10 +26,13 @@ mul-l : tie.Need-mul-l Inv-loop μ-loop
 mul-l c = omega arith
 
 element-copy-out-l : tie.Need-element-copy-out-l Inv-loop μ-loop
-element-copy-out-l c = omega arith
+element-copy-out-l c = omega (arith, counts-pass (c .before .before .before .args .t1) (c .before .before .before .pre .0) .links-most)
 
 link-steady-requires : tie.Need-link-steady-requires Inv-loop μ-loop
-link-steady-requires c κs = (c .before .before .before .before .pre .0 .each (c .before .before .loop .i) (omega arith), c .before .before .before .before .pre .1)
+link-steady-requires c κs =
+    let s = c .before .before .before .before in
+    let f = entry-fits (s .args .t1) (s .pre .0) (c .before .before .loop .i) (omega arith) in
+    (f .code-most, f .jitter-most, s .pre .1)
 
 smaller-requires : tie.Need-smaller-requires Inv-loop μ-loop
 smaller-requires c κs = search needs

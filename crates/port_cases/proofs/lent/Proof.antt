@@ -5,8 +5,8 @@ use borrow.Author.Needs.{needs}
 use Rattle.port_cases.proofs.lent.Statement.{statement}
 use Rattle.port_cases.proofs.lent.Tie as tie
 
-two-requires : tie.Need-two-requires
-two-requires c κs = search needs
+read2-requires : tie.Need-read2-requires
+read2-requires c κs = search needs
 
 cast-least : tie.Need-cast-least
 cast-least c = search needs
@@ -33,7 +33,7 @@ pub lent-spec : {M : Type 1} → statement M
 lent-spec =
     tie.close
     (tie.spec
-    two-requires
+    read2-requires
     cast-least
     least-requires
     slice-relend-prefix-report

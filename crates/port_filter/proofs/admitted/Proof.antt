@@ -2,8 +2,7 @@ use mathlib.Core.Path.{sym, _∙_}
 use native.Mathlib.Omega.{arith}
 use Prim.Native.Nat.{_<_}
 use lib.ListN.{getD}
-use Rattle.table.proofs.Shape.{sized}
-use Rattle.table_lookup.proofs.Tables.{passing}
+use Rattle.table_lookup.proofs.Tables.{searchable}
 use Rattle.port_filter.proofs.Filtering.{nowhere, in-array, let-through, kept-out}
 use borrow.Author.Needs.{needs}
 use Rattle.port_filter.proofs.admitted.Statement.{statement}
@@ -12,7 +11,7 @@ use Rattle.port_filter.proofs.admitted.Tie as tie
 place-of-requires : tie.Need-place-of-requires
 place-of-requires c κs =
     let s = c .before .before in
-    let k = passing (s .args .t1) (sized (s .args .t1) _ (s .good .0)) (s .pre) in (k .some-link, k .links-most, k .rising)
+    searchable (s .args .t1) (s .pre)
 
 enum-known-i : tie.Need-enum-known-i
 enum-known-i c = search needs
@@ -23,12 +22,12 @@ enum-told c = search needs
 returns : tie.Need-returns
 returns c =
     let s = c .before .before .before .before .before in
-    nowhere (s .args .t1) (sized (s .args .t1) _ (s .good .0)) (s .pre) (s .args .line) (s .args .number) (s .args .«length») (c .before .before .place-of .ensures) (c .enum-told .given .1)
+    nowhere (s .args .t1) (s .pre) (s .args .line) (s .args .number) (s .args .«length») (c .before .before .place-of .ensures) (c .enum-told .given .1)
 
 within : (c : tie.After-known-told) → c .before .i .given .0 .0 < 256
 within c =
     let s = c .before .before .before .before .before .before in
-    in-array (s .args .t1) (sized (s .args .t1) _ (s .good .0)) (s .pre) (s .args .line) (s .args .number) (s .args .«length») (c .before .before .before .place-of .ensures) (c .before .i .given .0 .0) (c .before .i .given .1)
+    in-array (s .args .t1) (s .pre) (s .args .line) (s .args .number) (s .args .«length») (c .before .before .before .place-of .ensures) (c .before .i .given .0 .0) (c .before .i .given .1)
 
 mul-link : tie.Need-mul-link
 mul-link c = let k = within c in omega arith
@@ -43,14 +42,14 @@ returns-2 : tie.Need-returns-2
 returns-2 c =
     let s = c .before .before .before .before .before .before .before .before .before in
     let i = c .before .before .before .before .i .given .0 .0 in
-    let-through (s .args .t1) (sized (s .args .t1) _ (s .good .0)) (s .pre) (s .args .line) (s .args .number) (s .args .«length») (c .before .before .before .before .before .before .place-of .ensures) i (c .before .before .before .before .i .given .1)
+    let-through (s .args .t1) (s .pre) (s .args .line) (s .args .number) (s .args .«length») (c .before .before .before .before .before .before .place-of .ensures) i (c .before .before .before .before .i .given .1)
     (sym (c .if1 .taken) ∙ c .before .admits .ensures (getD (s .args .t1 .numbers) i 0))
 
 returns-3 : tie.Need-returns-3
 returns-3 c =
     let s = c .before .before .before .before .before .before .before .before .before in
     let i = c .before .before .before .before .i .given .0 .0 in
-    kept-out (s .args .t1) (sized (s .args .t1) _ (s .good .0)) (s .pre) (s .args .line) (s .args .number) (s .args .«length») (c .before .before .before .before .before .before .place-of .ensures) i (c .before .before .before .before .i .given .1)
+    kept-out (s .args .t1) (s .pre) (s .args .line) (s .args .number) (s .args .«length») (c .before .before .before .before .before .before .place-of .ensures) i (c .before .before .before .before .i .given .1)
     (sym (c .if1 .left) ∙ c .before .admits .ensures (getD (s .args .t1 .numbers) i 0))
 
 pub admitted-spec : {M : Type 1} → statement M

@@ -5,13 +5,13 @@ use Prim.Native.Nat.{_+_, _-_, _≤_}
 use native.Mathlib.Omega.{arith}
 use lib.ListN.{getD}
 use Rattle.model.specs.Basics.{allTo}
+use Rattle.model.proofs.Bags.{bag-most}
 use Rattle.model.proofs.Checks.{true-all}
 use Rattle.table.specs.View.{blankFields}
 use Rattle.table.proofs.Shape.{sized}
 use Rattle.port_fitness.specs.Conditions.{tickFits, creditFits}
 use Rattle.port_fitness.proofs.All.{any-false, all-none, all-more, all-stops, all-end}
 use Rattle.port_fitness.proofs.Entries.{accounts-whole, tick-late, tick-past, credit-high, credit-within}
-use Rattle.port_policing.proofs.Full.{bag-most}
 use Rattle.port_fitness.proofs.accounts_fit.Statement.{statement}
 use Rattle.port_fitness.proofs.accounts_fit.Tie as tie
 

@@ -3,9 +3,10 @@ use mathlib.Core.Path.{_≡_, _∙_}
 use Prim.Native.Nat.{_-_, _≤_}
 use native.Mathlib.Omega.{arith}
 use lib.ListN.{take}
+use Rattle.model.proofs.Bags.{bag-most}
 use Rattle.table.specs.View.{viewLinks}
 use Rattle.table.proofs.Shape.{sized}
-use Rattle.port_policing.proofs.Full.{bag-most, accountsOf, none-yet, next-account, all-accounts}
+use Rattle.port_policing.proofs.Full.{accountsOf, none-yet, next-account, all-accounts}
 use Rattle.port_policing.proofs.full_accounts.Statement.{statement}
 use Rattle.port_policing.proofs.full_accounts.Tie as tie
 

@@ -6,11 +6,11 @@ use borrow.Author.Tests.{not-true, not-false}
 use lib.ListN.{drop}
 use Rattle.model.specs.Fitness.{framesFit}
 use Rattle.table.specs.View.{viewTable}
-use Rattle.table.proofs.Shape.{sized}
+use Rattle.table.proofs.PassingRecord.{counts-pass}
 use Rattle.port_scheduler.specs.View.{viewQueue}
 use Rattle.port_scheduler.proofs.Shape.{queue-whole}
 use Rattle.port_scheduler.proofs.Sums.{bytesBefore, bytes-none, bytes-more, bytes-all}
-use Rattle.table_lookup.proofs.Tables.{passing}
+use Rattle.table_lookup.proofs.Tables.{searchable}
 use Rattle.port_queue_fitness.proofs.QueueTests.{sum-decides, unnamed, unfit, goes-on}
 use Rattle.port_queue_fitness.proofs.load_fits.Statement.{statement}
 use Rattle.port_queue_fitness.proofs.load_fits.Tie as tie
@@ -47,8 +47,7 @@ element-copy-out-guess c = omega arith
 place-near-requires : tie.Need-place-near-requires Inv-loop μ-loop
 place-near-requires c κs =
     let start = c .before .before .before .before .before .before .before in
-    let k = passing (start .args .t1) (sized (start .args .t1) _ (start .good .0)) (start .pre .0) in
-    (k .some-link, k .links-most, k .rising)
+    searchable (start .args .t1) (start .pre .0)
 
 enum-known-place : tie.Need-enum-known-place Inv-loop μ-loop
 enum-known-place c = search needs
@@ -60,20 +59,19 @@ returns : tie.Need-returns Inv-loop μ-loop
 returns c =
     let start = c .before .before .before .before .before .before .before .before .before .before in
     let loop = c .before .before .before .before .before .before .before .before .before .loop in
-    let s = sized (start .args .t1) _ (start .good .0) in
     let w = queue-whole (start .args .t3) _ (start .good .1 .1 .0) in
-    unnamed (start .args .t1) (start .args .t3) (start .args .priority) (start .args .clock) (loop .low) (loop .i) (loop .inv .2) s (start .pre .0) (omega arith) (omega arith) _ refl _ (c .before .before .place-near .ensures) (c .enum-told .given .1)
+    unnamed (start .args .t1) (start .args .t3) (start .args .priority) (start .args .clock) (loop .low) (loop .i) (loop .inv .2) (start .pre .0) (omega arith) (omega arith) _ refl _ (c .before .before .place-near .ensures) (c .enum-told .given .1)
 
 mul-link : tie.Need-mul-link Inv-loop μ-loop
 mul-link c =
     let start = c .before .before .before .before .before .before .before .before .before .before .before in
-    let k = passing (start .args .t1) (sized (start .args .t1) _ (start .good .0)) (start .pre .0) in
+    let k = counts-pass (start .args .t1) (start .pre .0) in
     omega (arith, c .before .before .before .place-near .ensures .below _ (c .before .place .given .1))
 
 element-copy-out-link : tie.Need-element-copy-out-link Inv-loop μ-loop
 element-copy-out-link c =
     let start = c .before .before .before .before .before .before .before .before .before .before .before in
-    let k = passing (start .args .t1) (sized (start .args .t1) _ (start .good .0)) (start .pre .0) in
+    let k = counts-pass (start .args .t1) (start .pre .0) in
     omega (arith, c .before .before .before .place-near .ensures .below _ (c .before .place .given .1))
 
 frame-fits-requires : tie.Need-frame-fits-requires Inv-loop μ-loop
@@ -83,9 +81,8 @@ returns-2 : tie.Need-returns-2 Inv-loop μ-loop
 returns-2 c =
     let start = c .before .before .before .before .before .before .before .before .before .before .before .before .before .before in
     let loop = c .before .before .before .before .before .before .before .before .before .before .before .before .before .loop in
-    let s = sized (start .args .t1) _ (start .good .0) in
     let w = queue-whole (start .args .t3) _ (start .good .1 .1 .0) in
-    unfit (start .args .t1) (start .args .t3) (start .args .priority) (start .args .clock) (loop .low) (loop .i) (loop .inv .2) s (start .pre .0) (omega arith) (omega arith) _ refl _ (c .before .before .before .before .before .before .place-near .ensures) _ (c .before .before .before .before .place .given .1) _ (c .before .frame-fits .ensures) (not-true (c .before .frame-fits .result) (c .if1 .taken))
+    unfit (start .args .t1) (start .args .t3) (start .args .priority) (start .args .clock) (loop .low) (loop .i) (loop .inv .2) (start .pre .0) (omega arith) (omega arith) _ refl _ (c .before .before .before .before .before .before .place-near .ensures) _ (c .before .before .before .before .place .given .1) _ (c .before .frame-fits .ensures) (not-true (c .before .frame-fits .result) (c .if1 .taken))
 
 occupancy-requires : tie.Need-occupancy-requires Inv-loop μ-loop
 occupancy-requires c κs = search needs
@@ -103,12 +100,11 @@ loop-again : tie.Need-loop-again Inv-loop μ-loop
 loop-again c =
     let start = c .before .before .before .before .before .before .before .before .before .before .before .before .before .before .before in
     let loop = c .before .before .before .before .before .before .before .before .before .before .before .before .before .before .loop in
-    let s = sized (start .args .t1) _ (start .good .0) in
     let w = queue-whole (start .args .t3) _ (start .good .1 .1 .0) in
     let more = bytes-more (start .args .t3 .frames) (loop .i) (omega arith) in (
       omega arith,
       refl,
-      goes-on (start .args .t1) (start .args .t3) (start .args .priority) (start .args .clock) (loop .low) (loop .i) (loop .inv .2) s (start .pre .0) (omega arith) (omega arith) _ refl _ (c .before .before .before .before .before .before .before .place-near .ensures) _ (c .before .before .before .before .before .place .given .1) _ (c .before .before .frame-fits .ensures) (not-false (c .before .before .frame-fits .result) (c .before .if1 .left)),
+      goes-on (start .args .t1) (start .args .t3) (start .args .priority) (start .args .clock) (loop .low) (loop .i) (loop .inv .2) (start .pre .0) (omega arith) (omega arith) _ refl _ (c .before .before .before .before .before .before .before .place-near .ensures) _ (c .before .before .before .before .before .place .given .1) _ (c .before .before .frame-fits .ensures) (not-false (c .before .before .frame-fits .result) (c .before .if1 .left)),
       omega arith,
       omega arith,
     )

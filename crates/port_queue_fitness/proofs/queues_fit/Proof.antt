@@ -13,7 +13,7 @@ use Rattle.port_scheduler.proofs.Shape.{queues-eight}
 use Rattle.port_scheduler.proofs.Sums.{frames-none, frames-more}
 use Rattle.port_queue_fitness.specs.Queues.{queueFits}
 use Rattle.port_fitness.proofs.All.{all-none, all-more}
-use Rattle.table_lookup.proofs.Tables.{counts-pass}
+use Rattle.table.proofs.PassingRecord.{counts-pass}
 use Rattle.port_queue_fitness.proofs.QueueTests.{too-many, load-unfit, mark-above, queue-fits, none-queued, queue-told, sender-told, all-told}
 use Rattle.port_fitness.proofs.Sending.{sends-nothing, no-queue}
 use Rattle.port_queue_fitness.proofs.queues_fit.Statement.{statement}
@@ -43,6 +43,9 @@ mul-q c = omega arith
 
 array-copy-out-q : tie.Need-array-copy-out-q Inv-loop μ-loop
 array-copy-out-q c = omega arith
+
+cast-if3 : tie.Need-cast-if3 Inv-loop μ-loop
+cast-if3 c = omega arith
 
 unfit-requires : tie.Need-unfit-requires Inv-loop μ-loop
 unfit-requires c κs = search needs
@@ -190,6 +193,7 @@ queues-fit-spec =
     guesses-of-requires
     mul-q
     array-copy-out-q
+    cast-if3
     unfit-requires
     returns
     cast-load-fits

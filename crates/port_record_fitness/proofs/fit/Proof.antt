@@ -1,6 +1,6 @@
 use mathlib.Core.Path.{sym, ap, _∙_}
 use borrow.Author.Tests.{not-true, not-false}
-use Rattle.table_lookup.proofs.Tables.{counts-pass}
+use Rattle.table.proofs.PassingRecord.{counts-pass}
 use Rattle.port_queue_fitness.specs.declared.Fitness.{Fitness}
 use Rattle.port_record_fitness.proofs.Conditions.{table-passes, is-unfit, is-fit}
 use borrow.Author.Needs.{needs}

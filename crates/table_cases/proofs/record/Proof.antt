@@ -12,8 +12,8 @@ Inv-loop body given numbers₀ links₀ i₀ numbers links i = (i ≤ given) × 
 abbrev μ-loop : tie.MeasureT-loop
 μ-loop body given numbers₀ links₀ i₀ numbers links i = given - i
 
-two-requires : tie.Need-two-requires Inv-loop μ-loop
-two-requires c κs = search needs
+read2-requires : tie.Need-read2-requires Inv-loop μ-loop
+read2-requires c κs = search needs
 
 cast-least : tie.Need-cast-least Inv-loop μ-loop
 cast-least c = search needs
@@ -24,14 +24,14 @@ least-requires c κs = search needs
 loop-holds : tie.Need-loop-holds Inv-loop μ-loop
 loop-holds c = search needs
 
-mul-two : tie.Need-mul-two Inv-loop μ-loop
-mul-two c = search needs
+mul-read2 : tie.Need-mul-read2 Inv-loop μ-loop
+mul-read2 c = search needs
 
-add-two : tie.Need-add-two Inv-loop μ-loop
-add-two c = search needs
+add-read2 : tie.Need-add-read2 Inv-loop μ-loop
+add-read2 c = search needs
 
-two-requires-2 : tie.Need-two-requires-2 Inv-loop μ-loop
-two-requires-2 c κs = search needs
+read2-requires-2 : tie.Need-read2-requires-2 Inv-loop μ-loop
+read2-requires-2 c κs = search needs
 
 mul-numbers : tie.Need-mul-numbers Inv-loop μ-loop
 mul-numbers c = search needs
@@ -72,11 +72,11 @@ add-sizes c = search needs
 sizes-requires : tie.Need-sizes-requires Inv-loop μ-loop
 sizes-requires c κs = search needs
 
-two-requires-3 : tie.Need-two-requires-3 Inv-loop μ-loop
-two-requires-3 c κs = search needs
+read2-requires-3 : tie.Need-read2-requires-3 Inv-loop μ-loop
+read2-requires-3 c κs = search needs
 
-two-requires-4 : tie.Need-two-requires-4 Inv-loop μ-loop
-two-requires-4 c κs = search needs
+read2-requires-4 : tie.Need-read2-requires-4 Inv-loop μ-loop
+read2-requires-4 c κs = search needs
 
 returns : tie.Need-returns Inv-loop μ-loop
 returns c = search needs
@@ -87,13 +87,13 @@ record-spec =
     (tie.spec
     Inv-loop
     μ-loop
-    two-requires
+    read2-requires
     cast-least
     least-requires
     loop-holds
-    mul-two
-    add-two
-    two-requires-2
+    mul-read2
+    add-read2
+    read2-requires-2
     mul-numbers
     array-write-numbers
     mul-link
@@ -107,6 +107,6 @@ record-spec =
     mul-sizes
     add-sizes
     sizes-requires
-    two-requires-3
-    two-requires-4
+    read2-requires-3
+    read2-requires-4
     returns)

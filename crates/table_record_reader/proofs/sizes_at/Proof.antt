@@ -1,6 +1,6 @@
 use borrow.Author.Needs.{needs}
 use native.Mathlib.Omega.{arith}
-use Rattle.table_record_reader.proofs.Due.{body-there, sizes-header, sizes-out, bytes-left, sizes-in}
+use Rattle.table_record_reader.proofs.Due.{sizes-header, sizes-out, bytes-left, sizes-in}
 use Rattle.table_record_reader.proofs.sizes_at.Statement.{statement}
 use Rattle.table_record_reader.proofs.sizes_at.Tie as tie
 
@@ -11,7 +11,7 @@ returns : tie.Need-returns
 returns c = sizes-header (c .before .before .before .args .rest .now) _ (c .before .header-refusal .ensures) (c .if1 .taken)
 
 sizes-read-requires : tie.Need-sizes-read-requires
-sizes-read-requires c κs = let k = body-there 3 34 (c .before .before .before .args .rest .now) _ (c .before .header-refusal .ensures) (c .if1 .left) in omega arith
+sizes-read-requires c κs = search needs
 
 sizes-refusal-requires : tie.Need-sizes-refusal-requires
 sizes-refusal-requires c κs = search needs

@@ -6,7 +6,8 @@ use native.Mathlib.Omega.{arith}
 use lib.ListN.{length, getD, take}
 use Rattle.model.specs.Link.{blankLink}
 use Rattle.table.specs.View.{viewLinks}
-use Rattle.table_record_writer.specs.Output.{laid, linkRecord}
+use Rattle.little_endian.specs.Output.{laid}
+use Rattle.table_record_writer.specs.Records.{linkRecord}
 use Rattle.table.proofs.Shape.{sized, count-shown, link-shown}
 use Rattle.table_record_writer.proofs.Written.{first-laid, more-laid, all-laid, length-linkRecord}
 use Rattle.table_record_writer.proofs.link_records.Statement.{statement}

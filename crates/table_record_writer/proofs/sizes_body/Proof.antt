@@ -6,7 +6,7 @@ use native.Mathlib.Omega.{arith}
 use lib.ListN.{length, take}
 use Rattle.model.specs.TableFile.{toBytes, sizesBody}
 use Rattle.model.proofs.Bytes.{length-toBytes}
-use Rattle.table_record_writer.specs.Output.{laid}
+use Rattle.little_endian.specs.Output.{laid}
 use Rattle.table_record_writer.proofs.Written.{first-laid, more-laid, all-laid}
 use Rattle.table_record_writer.proofs.sizes_body.Statement.{statement}
 use Rattle.table_record_writer.proofs.sizes_body.Tie as tie
@@ -22,17 +22,17 @@ loop-holds c =
     let start = c .before in
     (omega arith, refl, first-laid (toBytes 4) 4 (length-toBytes 4) 0 (start .args .t2) (start .args .out .now))
 
-mul-put4 : tie.Need-mul-put4 Inv-loop μ-loop
-mul-put4 c = omega arith
+mul-write4 : tie.Need-mul-write4 Inv-loop μ-loop
+mul-write4 c = omega arith
 
-mul-put4-2 : tie.Need-mul-put4-2 Inv-loop μ-loop
-mul-put4-2 c = omega arith
+mul-write4-2 : tie.Need-mul-write4-2 Inv-loop μ-loop
+mul-write4-2 c = omega arith
 
-array-read-put4 : tie.Need-array-read-put4 Inv-loop μ-loop
-array-read-put4 c = omega arith
+array-read-write4 : tie.Need-array-read-write4 Inv-loop μ-loop
+array-read-write4 c = omega arith
 
-put4-requires : tie.Need-put4-requires Inv-loop μ-loop
-put4-requires c κs = omega arith
+write4-requires : tie.Need-write4-requires Inv-loop μ-loop
+write4-requires c κs = omega arith
 
 add-p : tie.Need-add-p Inv-loop μ-loop
 add-p c = omega arith
@@ -44,7 +44,7 @@ loop-again : tie.Need-loop-again Inv-loop μ-loop
 loop-again c =
     let start = c .before .before .before .before .before .before .before in
     let n : length (start .args .t2) ≡ 8 = start .good .1 .0 .1 .0 .1 in
-    (omega arith, c .before .before .put4 .kept .0 ∙ c .before .before .before .before .before .loop .inv .1, more-laid (toBytes 4) 4 (length-toBytes 4) 0 (start .args .t2) (c .before .before .before .before .before .loop .p) (4 * c .before .before .before .before .before .loop .p) 0 (start .args .out .now) (c .before .before .before .before .before .loop .out) (c .before .before .put4 .last .0) (omega arith) (omega arith) (omega arith) (c .before .before .before .before .before .loop .inv .2) (c .before .before .put4 .ensures))
+    (omega arith, c .before .before .write4 .kept .0 ∙ c .before .before .before .before .before .loop .inv .1, more-laid (toBytes 4) 4 (length-toBytes 4) 0 (start .args .t2) (c .before .before .before .before .before .loop .p) (4 * c .before .before .before .before .before .loop .p) 0 (start .args .out .now) (c .before .before .before .before .before .loop .out) (c .before .before .write4 .last .0) (omega arith) (omega arith) (omega arith) (c .before .before .before .before .before .loop .inv .2) (c .before .before .write4 .ensures))
 
 same-length : tie.Need-same-length Inv-loop μ-loop
 same-length c = search needs
@@ -63,10 +63,10 @@ sizes-body-spec =
     Inv-loop
     μ-loop
     loop-holds
-    mul-put4
-    mul-put4-2
-    array-read-put4
-    put4-requires
+    mul-write4
+    mul-write4-2
+    array-read-write4
+    write4-requires
     add-p
     loop-less
     loop-again

@@ -1,5 +1,5 @@
 use mathlib.Core.Path.{sym, _∙_}
-use Rattle.table_lookup.proofs.Tables.{counts-pass}
+use Rattle.table.proofs.PassingRecord.{counts-pass}
 use Rattle.port.proofs.FreshPort.{fresh-refused, fresh-given}
 use borrow.Author.Needs.{needs}
 use Rattle.port.proofs.resting.fresh.Statement.{statement}

@@ -54,14 +54,14 @@ loop-less c = search needs
 loop-again : tie.Need-loop-again Inv-loop μ-loop
 loop-again c = search needs
 
-two-requires : tie.Need-two-requires Inv-loop μ-loop
-two-requires c κs = search needs
+read2-requires : tie.Need-read2-requires Inv-loop μ-loop
+read2-requires c κs = search needs
 
-add-four : tie.Need-add-four Inv-loop μ-loop
-add-four c = search needs
+add-read4 : tie.Need-add-read4 Inv-loop μ-loop
+add-read4 c = search needs
 
-four-requires : tie.Need-four-requires Inv-loop μ-loop
-four-requires c κs = search needs
+read4-requires : tie.Need-read4-requires Inv-loop μ-loop
+read4-requires c κs = search needs
 
 returns : tie.Need-returns Inv-loop μ-loop
 returns c = search needs
@@ -86,7 +86,7 @@ queue-at-spec =
     add-i
     loop-less
     loop-again
-    two-requires
-    add-four
-    four-requires
+    read2-requires
+    add-read4
+    read4-requires
     returns)

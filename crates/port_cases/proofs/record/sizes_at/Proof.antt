@@ -15,14 +15,14 @@ abbrev μ-loop : tie.MeasureT-loop
 loop-holds : tie.Need-loop-holds Inv-loop μ-loop
 loop-holds c = search needs
 
-mul-four : tie.Need-mul-four Inv-loop μ-loop
-mul-four c = search needs
+mul-read4 : tie.Need-mul-read4 Inv-loop μ-loop
+mul-read4 c = search needs
 
-add-four : tie.Need-add-four Inv-loop μ-loop
-add-four c = search needs
+add-read4 : tie.Need-add-read4 Inv-loop μ-loop
+add-read4 c = search needs
 
-four-requires : tie.Need-four-requires Inv-loop μ-loop
-four-requires c κs = search needs
+read4-requires : tie.Need-read4-requires Inv-loop μ-loop
+read4-requires c κs = search needs
 
 mul-sizes : tie.Need-mul-sizes Inv-loop μ-loop
 mul-sizes c = search needs
@@ -49,9 +49,9 @@ sizes-at-spec =
     Inv-loop
     μ-loop
     loop-holds
-    mul-four
-    add-four
-    four-requires
+    mul-read4
+    add-read4
+    read4-requires
     mul-sizes
     array-write-sizes
     add-p

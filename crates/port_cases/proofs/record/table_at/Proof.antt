@@ -18,11 +18,11 @@ add-given c = search needs
 given-requires : tie.Need-given-requires Inv-loop μ-loop
 given-requires c κs = search needs
 
-add-two : tie.Need-add-two Inv-loop μ-loop
-add-two c = search needs
+add-read2 : tie.Need-add-read2 Inv-loop μ-loop
+add-read2 c = search needs
 
-two-requires : tie.Need-two-requires Inv-loop μ-loop
-two-requires c κs = search needs
+read2-requires : tie.Need-read2-requires Inv-loop μ-loop
+read2-requires c κs = search needs
 
 add-link-at : tie.Need-add-link-at Inv-loop μ-loop
 add-link-at c = search needs
@@ -33,17 +33,17 @@ link-at-requires c κs = search needs
 loop-holds : tie.Need-loop-holds Inv-loop μ-loop
 loop-holds c = search needs
 
-add-two-2 : tie.Need-add-two-2 Inv-loop μ-loop
-add-two-2 c = search needs
+add-read2-2 : tie.Need-add-read2-2 Inv-loop μ-loop
+add-read2-2 c = search needs
 
-mul-two : tie.Need-mul-two Inv-loop μ-loop
-mul-two c = search needs
+mul-read2 : tie.Need-mul-read2 Inv-loop μ-loop
+mul-read2 c = search needs
 
-add-two-3 : tie.Need-add-two-3 Inv-loop μ-loop
-add-two-3 c = search needs
+add-read2-3 : tie.Need-add-read2-3 Inv-loop μ-loop
+add-read2-3 c = search needs
 
-two-requires-2 : tie.Need-two-requires-2 Inv-loop μ-loop
-two-requires-2 c κs = search needs
+read2-requires-2 : tie.Need-read2-requires-2 Inv-loop μ-loop
+read2-requires-2 c κs = search needs
 
 mul-numbers : tie.Need-mul-numbers Inv-loop μ-loop
 mul-numbers c = search needs
@@ -90,14 +90,14 @@ add-sizes-at-2 c = search needs
 sizes-at-requires : tie.Need-sizes-at-requires Inv-loop μ-loop
 sizes-at-requires c κs = search needs
 
-two-requires-3 : tie.Need-two-requires-3 Inv-loop μ-loop
-two-requires-3 c κs = search needs
+read2-requires-3 : tie.Need-read2-requires-3 Inv-loop μ-loop
+read2-requires-3 c κs = search needs
 
-add-two-4 : tie.Need-add-two-4 Inv-loop μ-loop
-add-two-4 c = search needs
+add-read2-4 : tie.Need-add-read2-4 Inv-loop μ-loop
+add-read2-4 c = search needs
 
-two-requires-4 : tie.Need-two-requires-4 Inv-loop μ-loop
-two-requires-4 c κs = search needs
+read2-requires-4 : tie.Need-read2-requires-4 Inv-loop μ-loop
+read2-requires-4 c κs = search needs
 
 returns : tie.Need-returns Inv-loop μ-loop
 returns c = search needs
@@ -110,15 +110,15 @@ table-at-spec =
     μ-loop
     add-given
     given-requires
-    add-two
-    two-requires
+    add-read2
+    read2-requires
     add-link-at
     link-at-requires
     loop-holds
-    add-two-2
-    mul-two
-    add-two-3
-    two-requires-2
+    add-read2-2
+    mul-read2
+    add-read2-3
+    read2-requires-2
     mul-numbers
     array-write-numbers
     add-link-at-2
@@ -134,7 +134,7 @@ table-at-spec =
     mul-sizes-at
     add-sizes-at-2
     sizes-at-requires
-    two-requires-3
-    add-two-4
-    two-requires-4
+    read2-requires-3
+    add-read2-4
+    read2-requires-4
     returns)

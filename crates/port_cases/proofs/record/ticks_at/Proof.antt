@@ -18,23 +18,23 @@ add-given c = search needs
 given-requires : tie.Need-given-requires Inv-loop μ-loop
 given-requires c κs = search needs
 
-eight-requires : tie.Need-eight-requires Inv-loop μ-loop
-eight-requires c κs = search needs
+read8-requires : tie.Need-read8-requires Inv-loop μ-loop
+read8-requires c κs = search needs
 
 loop-holds : tie.Need-loop-holds Inv-loop μ-loop
 loop-holds c = search needs
 
-add-eight : tie.Need-add-eight Inv-loop μ-loop
-add-eight c = search needs
+add-read8 : tie.Need-add-read8 Inv-loop μ-loop
+add-read8 c = search needs
 
-mul-eight : tie.Need-mul-eight Inv-loop μ-loop
-mul-eight c = search needs
+mul-read8 : tie.Need-mul-read8 Inv-loop μ-loop
+mul-read8 c = search needs
 
-add-eight-2 : tie.Need-add-eight-2 Inv-loop μ-loop
-add-eight-2 c = search needs
+add-read8-2 : tie.Need-add-read8-2 Inv-loop μ-loop
+add-read8-2 c = search needs
 
-eight-requires-2 : tie.Need-eight-requires-2 Inv-loop μ-loop
-eight-requires-2 c κs = search needs
+read8-requires-2 : tie.Need-read8-requires-2 Inv-loop μ-loop
+read8-requires-2 c κs = search needs
 
 mul-ticks : tie.Need-mul-ticks Inv-loop μ-loop
 mul-ticks c = search needs
@@ -62,12 +62,12 @@ ticks-at-spec =
     μ-loop
     add-given
     given-requires
-    eight-requires
+    read8-requires
     loop-holds
-    add-eight
-    mul-eight
-    add-eight-2
-    eight-requires-2
+    add-read8
+    mul-read8
+    add-read8-2
+    read8-requires-2
     mul-ticks
     array-write-ticks
     add-i

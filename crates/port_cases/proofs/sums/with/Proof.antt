@@ -5,13 +5,25 @@ use Rattle.port_cases.proofs.sums.with.Statement.{statement}
 use Rattle.port_cases.proofs.sums.with.Tie as tie
 
 abbrev Inv-loop : tie.InvT-loop
-Inv-loop sum number r₀ rest₀ i₀ r rest i = i ≤ 8
+Inv-loop sum number bytes r₀ i₀ r i = i ≤ 8
 
 abbrev μ-loop : tie.MeasureT-loop
-μ-loop sum number r₀ rest₀ i₀ r rest i = 8 - i
+μ-loop sum number bytes r₀ i₀ r i = 8 - i
+
+slice-aggregate-write8 : tie.Need-slice-aggregate-write8 Inv-loop μ-loop
+slice-aggregate-write8 c = search needs
+
+write8-requires : tie.Need-write8-requires Inv-loop μ-loop
+write8-requires c κs = search needs
 
 loop-holds : tie.Need-loop-holds Inv-loop μ-loop
 loop-holds c = search needs
+
+array-read-wide : tie.Need-array-read-wide Inv-loop μ-loop
+array-read-wide c = search needs
+
+wide-requires : tie.Need-wide-requires Inv-loop μ-loop
+wide-requires c κs = search needs
 
 mul-r : tie.Need-mul-r Inv-loop μ-loop
 mul-r c = search needs
@@ -30,4 +42,17 @@ returns c = search needs
 
 pub with-spec : {M : Type 1} → statement M
 with-spec =
-    tie.close (tie.spec Inv-loop μ-loop loop-holds mul-r add-i loop-less loop-again returns)
+    tie.close
+    (tie.spec
+    Inv-loop
+    μ-loop
+    slice-aggregate-write8
+    write8-requires
+    loop-holds
+    array-read-wide
+    wide-requires
+    mul-r
+    add-i
+    loop-less
+    loop-again
+    returns)

@@ -19,8 +19,8 @@ least-requires c κs = search needs
 loop-holds : tie.Need-loop-holds Inv-loop μ-loop
 loop-holds c = search needs
 
-eight-requires : tie.Need-eight-requires Inv-loop μ-loop
-eight-requires c κs = search needs
+read8-requires : tie.Need-read8-requires Inv-loop μ-loop
+read8-requires c κs = search needs
 
 returns-2 : tie.Need-returns-2 Inv-loop μ-loop
 returns-2 c = search needs
@@ -46,7 +46,7 @@ is-run-spec =
     returns
     least-requires
     loop-holds
-    eight-requires
+    read8-requires
     returns-2
     add-at
     loop-less

@@ -4,10 +4,13 @@ use Rattle.replay.proofs.parts.replay.Statement.{statement}
 use Rattle.replay.proofs.parts.replay.Tie as tie
 
 abbrev Inv-loop : tie.InvT-loop
-Inv-loop fd now₀ state₀ turns₀ now state turns = Unit {0}
+Inv-loop fd room₀ run₀ state₀ turns₀ room run state turns = Unit {0}
 
 abbrev μ-loop : tie.MeasureT-loop
-μ-loop fd now₀ state₀ turns₀ now state turns = turns
+μ-loop fd room₀ run₀ state₀ turns₀ room run state turns = turns
+
+empty-requires : tie.Need-empty-requires Inv-loop μ-loop
+empty-requires c κs = search needs
 
 loop-holds : tie.Need-loop-holds Inv-loop μ-loop
 loop-holds c = search needs
@@ -27,11 +30,17 @@ loop-less c = search needs
 loop-again : tie.Need-loop-again Inv-loop μ-loop
 loop-again c = search needs
 
-say-end-requires : tie.Need-say-end-requires Inv-loop μ-loop
-say-end-requires c κs = search needs
+finished-requires : tie.Need-finished-requires Inv-loop μ-loop
+finished-requires c κs = search needs
 
 returns : tie.Need-returns Inv-loop μ-loop
 returns c = search needs
+
+returns-2 : tie.Need-returns-2 Inv-loop μ-loop
+returns-2 c = search needs
+
+returns-3 : tie.Need-returns-3 Inv-loop μ-loop
+returns-3 c = search needs
 
 pub replay-spec : {M : Type 1} → statement M
 replay-spec =
@@ -39,11 +48,14 @@ replay-spec =
     (tie.spec
     Inv-loop
     μ-loop
+    empty-requires
     loop-holds
     next-part-requires
     replay-part-requires
     sub-turns
     loop-less
     loop-again
-    say-end-requires
-    returns)
+    finished-requires
+    returns
+    returns-2
+    returns-3)

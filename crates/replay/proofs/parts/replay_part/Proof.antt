@@ -5,10 +5,10 @@ use Rattle.replay.proofs.parts.replay_part.Statement.{statement}
 use Rattle.replay.proofs.parts.replay_part.Tie as tie
 
 abbrev Inv-loop : tie.InvT-loop
-Inv-loop list₀ bytes end now₀ at₀ list now at = end ≤ 8000
+Inv-loop room₀ list₀ bytes end port₀ out₀ at₀ room list port out at = end ≤ 8000
 
 abbrev μ-loop : tie.MeasureT-loop
-μ-loop list₀ bytes end now₀ at₀ list now at = end - at
+μ-loop room₀ list₀ bytes end port₀ out₀ at₀ room list port out at = end - at
 
 least-requires : tie.Need-least-requires Inv-loop μ-loop
 least-requires c κs = search needs
@@ -16,8 +16,17 @@ least-requires c κs = search needs
 loop-holds : tie.Need-loop-holds Inv-loop μ-loop
 loop-holds c = search needs
 
-replay-one-requires : tie.Need-replay-one-requires Inv-loop μ-loop
-replay-one-requires c κs = search needs
+report-requires : tie.Need-report-requires Inv-loop μ-loop
+report-requires c κs = search needs
+
+cast-put-answer : tie.Need-cast-put-answer Inv-loop μ-loop
+cast-put-answer c = search needs
+
+cast-put-answer-2 : tie.Need-cast-put-answer-2 Inv-loop μ-loop
+cast-put-answer-2 c = search needs
+
+put-answer-requires : tie.Need-put-answer-requires Inv-loop μ-loop
+put-answer-requires c κs = search needs
 
 add-at : tie.Need-add-at Inv-loop μ-loop
 add-at c = search needs
@@ -39,7 +48,10 @@ replay-part-spec =
     μ-loop
     least-requires
     loop-holds
-    replay-one-requires
+    report-requires
+    cast-put-answer
+    cast-put-answer-2
+    put-answer-requires
     add-at
     loop-less
     loop-again

@@ -3,14 +3,14 @@ use mathlib.Core.List.{[], _++_}
 use Prim.Native.Nat.{_+_, _-_, _*_, _≤_}
 use native.Mathlib.Omega.{arith}
 use Rattle.model.specs.Sheet.{text, header}
-use Rattle.sheet_text.specs.Fixed.{recordText, linesTo}
+use Rattle.sheet_text.specs.Fixed.{headerLength, mostLine, recordText, linesTo}
 use Rattle.sheet_text.proofs.Appended.{text-len}
 use Rattle.sheet_text.proofs.Columns.{none-there, one-there, all-there}
 use Rattle.sheet_text.proofs.lines.table_lines.Statement.{statement}
 use Rattle.sheet_text.proofs.lines.table_lines.Tie as tie
 
 abbrev Inv-loop : tie.InvT-loop
-Inv-loop bounds holds sizes out₀ p₀ out p = (p ≤ 8) × (out .len ≤ 36 + 61 * p) × (out ≡ recordText (header ++ linesTo bounds holds sizes p))
+Inv-loop bounds holds sizes out₀ p₀ out p = (p ≤ 8) × (out .len ≤ headerLength + mostLine * p) × (out ≡ recordText (header ++ linesTo bounds holds sizes p))
 
 abbrev μ-loop : tie.MeasureT-loop
 μ-loop bounds holds sizes out₀ p₀ out p = 8 - p

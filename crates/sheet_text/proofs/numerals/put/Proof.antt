@@ -2,7 +2,8 @@ use mathlib.Core.Path.{_≡_}
 use Prim.Native.Nat.{_+_, _-_, _≤_}
 use native.Mathlib.Omega.{arith}
 use lib.ListN.{length, take, length-set}
-use Rattle.table_record_writer.specs.Output.{laid}
+use Rattle.little_endian.specs.Output.{laid}
+use Rattle.sheet_text.specs.Fixed.{textRoom}
 use Rattle.sheet_text.proofs.Shape.{sized}
 use Rattle.sheet_text.proofs.Appended.{none-put, one-put, all-put}
 use Rattle.sheet_text.proofs.numerals.put.Statement.{statement}
@@ -10,14 +11,14 @@ use Rattle.sheet_text.proofs.numerals.put.Tie as tie
 
 abbrev Inv-loop : tie.InvT-loop
 Inv-loop part bytes₀ at i₀ bytes i =
-    (i ≤ length part) × (length bytes ≡ 524) × (length bytes₀ ≡ 524) × (at + length part ≤ 524) × (bytes ≡ laid at (take i part) bytes₀)
+    (i ≤ length part) × (length bytes ≡ textRoom) × (length bytes₀ ≡ textRoom) × (at + length part ≤ textRoom) × (bytes ≡ laid at (take i part) bytes₀)
 
 abbrev μ-loop : tie.MeasureT-loop
 μ-loop part bytes₀ at i₀ bytes i = length part - i
 
 loop-holds : tie.Need-loop-holds Inv-loop μ-loop
 loop-holds c =
-    let n : length (c .before .args .out .bytes) ≡ 524 = sized (c .before .args .out) _ (c .before .good .0) in
+    let n : length (c .before .args .out .bytes) ≡ textRoom = sized (c .before .args .out) _ (c .before .good .0) in
     (omega arith, n, n, c .before .pre, none-put (c .before .args .out .len) (c .before .args .part .now) (c .before .args .out .bytes))
 
 shared-slice-read-bytes : tie.Need-shared-slice-read-bytes Inv-loop μ-loop

@@ -1,0 +1,50 @@
+// Internal to the product: the units of the paper as constants, each once.
+use numbers::excess;
+use numbers::u16_as_u64;
+ghost use mathlib.Core.Path.{_≡_};
+ghost use mathlib.Core.List.{[], _∷_};
+ghost use Prim.Native.Nat.{_≤_};
+ghost use lib.Dec.{leb};
+ghost use Rattle.model.specs.Basics.{allHold};
+ghost use Rattle.model.specs.Units.{lastTick, leastLength, greatestLength, occupied};
+
+// A port clock runs from 0 to this tick, 2^48 − 1.
+pub const LAST_TICK: u64 = 281474976710655;
+
+// Lengths, in wire bytes.
+pub const LEAST_LENGTH: u16 = 84;
+
+pub const GREATEST_LENGTH: u16 = 1538;
+
+// The bytes of a frame on the wire that its buffer does not keep.
+pub const UNKEPT: u64 = 0;
+
+// No queue counts more frames.
+pub const MOST_FRAMES: usize = 195;
+
+// What eight full queues hold, and the length of a departure list that has room for it, three numbers each.
+pub const MOST_HELD: usize = 8 * MOST_FRAMES;
+
+pub const LIST_ROOM: usize = 3 * MOST_HELD;
+
+pub fn is_tick(tick: u64) -> bool
+    ensures { λ r. ⌜ r ≡ leb tick lastTick ⌝ }
+{
+    tick <= LAST_TICK
+}
+
+pub fn is_length(bytes: u64) -> bool
+    ensures { λ r. ⌜ r ≡ allHold (leb leastLength bytes ∷ leb bytes greatestLength ∷ []) ⌝ }
+{
+    if bytes < u16_as_u64(LEAST_LENGTH) {
+        return false;
+    }
+    bytes <= u16_as_u64(GREATEST_LENGTH)
+}
+
+// What a frame takes of its buffer.
+pub fn occupancy(length: u16) -> u64
+    ensures { λ r. ⌜ (r ≡ occupied length) × (r ≤ 65535) ⌝ }
+{
+    excess(u16_as_u64(length), UNKEPT)
+}

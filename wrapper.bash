@@ -1,0 +1,65 @@
+# What ./sheet and ./replay have in common; each sets usage and sources this. A wrapper ends with 0; with 2 for wrong use, or
+# where something can't be read, written or built; with 3 where the program refuses all that it was given.
+# shellcheck disable=SC2154
+set -u
+home=$(dirname -- "${BASH_SOURCE[0]}")
+
+fail() {
+    printf '%s\n' "$1" >&2
+    exit 2
+}
+
+# The words given: --help alone, or so many names, none of them empty.
+take_names() { # LEAST MOST WORDS..
+    { : 3>&1; } 2>/dev/null || fail "can't write"
+    local least=$1 most=$2 word
+    shift 2
+    if [ "$*" = --help ]; then
+        printf '%s\n' "$usage" 2>/dev/null || fail "can't write"
+        exit 0
+    fi
+    if [ $# -lt "$least" ] || [ $# -gt "$most" ]; then fail "$usage"; fi
+    for word; do [ -n "$word" ] || fail "an empty name"; done
+}
+
+# Whether the program is built, and no source is newer. A folder is newer when a file in it came or went.
+is_built() {
+    local newer
+    [ -x "$program" ] || return 1
+    newer=$(find "$home/crates.txt" "$home/crates" -name must-fail -prune -o -newer "$program" -print -quit) || return 1
+    [ -z "$newer" ]
+}
+
+# Proves and builds the program. It then counts as built when that began, so that an edit made meanwhile is newer.
+build() {
+    local began said
+    command -v rt >/dev/null || fail "rt, the command of the Rattle kit, is not on the PATH"
+    [ -x "$program" ] || echo "proving and building, once: some minutes" >&2
+    began=$(date +%s.%N)
+    said=$(cd -- "$home" && rt check "$1" 2>&1 </dev/null) || fail "$said"
+    touch -d "@$began" -- "$program"
+}
+
+# Runs the program of that name. Its results go straight to standard output; it has no exit status, so what it says on
+# standard error tells how it went: nothing; `refused`; or a message. 141 is the end of a pipe that nobody reads.
+run() { # NAME WORDS..
+    local name=$1 said status=0 lock out
+    program=$home/target/bin/$name
+    shift
+    if ! is_built; then
+        # One wrapper builds at a time, and the others find it built.
+        exec {lock}<"$home/crates.txt"
+        flock "$lock"
+        is_built || build "$name"
+        exec {lock}<&-
+    fi
+    exec {out}>&1
+    said=$("$program" "$@" 2>&1 >&"$out") || status=$?
+    case $status:$said in
+    0:) exit 0 ;;
+    0:refused) exit 3 ;;
+    0:*) fail "$said" ;;
+    141:*) fail "can't write" ;;
+    *) fail "$name ended with status $status. $said" ;;
+    esac
+}
