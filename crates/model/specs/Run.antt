@@ -131,18 +131,22 @@ pub data Always (P : Entry → List Entry → Type 0) : List Entry → Type 0 wh
   then : {e : Entry} {log : List Entry} → P e log → Always P log → Always P (e ∷ log)
 
 -- ---- demand 3, of a history h on table t; the words in quotes are the demand's. The log is the latest first, and a frame that the filter
--- lets through has a link of the table, so the clauses on priorities and links leave none out
-pub record Demand3 (t : Table) (h : History) : Type 0 where
+-- lets through has a link of the table, so the clauses on priorities and links leave none out. The bound and the hold of each priority are given
+pub record DemandBy (boundOf holdOf : ℕ → ℕ) (t : Table) (h : History) : Type 0 where
   -- "each priority's queue is its held frames, oldest first"
   pub queue : (p : ℕ) → p < 8 → queueOf (h .port .scheduler .queues) p ≡ heldOf t p (h .log)
   -- "each buffer holds, and has held, at most its bound": mostHeld has what it holds now among the sums
-  pub within : (p : ℕ) → p < 8 → mostHeld t p (h .log) ≤ bound t p
+  pub within : (p : ℕ) → p < 8 → mostHeld t p (h .log) ≤ boundOf p
   -- "and its mark is the most it has held"
   pub mark : (p : ℕ) → p < 8 → markOf (h .port) p ≡ mostHeld t p (h .log)
   -- "no frame stored at t is still held after an accepted report at t + its priority's hold or later"
-  pub in-time : (p : ℕ) → p < 8 → Always (λ e log. accepted (e .answer) ≡ true → Each (λ f. tickOf (e .report) < f .arrival + hold t p) (heldOf t p (e ∷ log))) (h .log)
+  pub in-time : (p : ℕ) → p < 8 → Always (λ e log. accepted (e .answer) ≡ true → Each (λ f. tickOf (e .report) < f .arrival + holdOf p) (heldOf t p (e ∷ log))) (h .log)
   -- "no frame that passed the police check is dropped where the size is at least the bound"
-  pub no-drop : (p : ℕ) → p < 8 → bound t p ≤ sizeOf t p → Always (λ e log. (f : Frame) → droppedBy e ≡ some f → hasPriority t p f ≡ true → ⊥) (h .log)
+  pub no-drop : (p : ℕ) → p < 8 → boundOf p ≤ sizeOf t p → Always (λ e log. (f : Frame) → droppedBy e ≡ some f → hasPriority t p f ≡ true → ⊥) (h .log)
   -- "a link that keeps BAG and jitter has none of its frames policed"
   pub not-policed : (i : ℕ) → i < length (t .links) → LinkKeeps (linkAt (t .links) i) (h .log)
       → Always (λ e log. (f : Frame) → policedBy e ≡ some f → f .number ≡ linkAt (t .links) i .number → ⊥) (h .log)
+
+-- with those that the paper defines
+abbrev pub Demand3 : Table → History → Type 0
+Demand3 t h = DemandBy (bound t) (hold t) t h
