@@ -55,7 +55,7 @@ module _ (p : PortRecord) (w : Whole p) (line len : ℕ) (k : Arrived p line len
   pub line-in : line < 24
   line-in = omega (arith, k .line-in, counts-pass (p .table) table-passes .lines-most)
 
-  -- a queue with room for a frame has fewer than 195: a frame has at least 84 bytes, a buffer at most 16,384
+  -- a queue with room for a frame is not full: a frame has at least the least length, a buffer at most 16,384 bytes
   roomy : (q : ℕ) → q < 8 → (f : FrameRecord) → f .length ≡ len → Roomy (getD (p .queues) q blankQueue) (getD (p .table .sizes) q 0) f
   unfolding viewTable viewPort occupied
   roomy q h f e =

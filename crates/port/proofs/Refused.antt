@@ -2,7 +2,7 @@
 use mathlib.Core.Path.{_≡_, refl, sym, ap, _∙_}
 use mathlib.Core.Bool.{Bool, true, false}
 use mathlib.Core.List.{[], _∷_}
-use Prim.Native.Nat.{ℕ, zero, suc, _≤_}
+use Prim.Native.Nat.{ℕ, zero, suc, _*_, _≤_}
 use native.Mathlib.Decide.{decLe}
 use native.Mathlib.Omega.{arith}
 use lib.ListN.{length, List·getD-eq-default}
@@ -44,8 +44,8 @@ module _ (p : PortRecord) {x : Fitness} (tested : x ≡ portFitness (p .table) (
     unfolding viewTable viewPort
     clocked = record { few = is-fit .table .counts .lines-most; early = λ ℓ l. omega (arith, is-fit .gate .lines-past ℓ l, is-fit .early) }
 
-    -- 16 of 8 × 195 frames at most
-    pub few-held : length (p .queues) ≡ 8 → x .frames ≤ 1_560
+    -- 16 of eight full queues at most
+    pub few-held : length (p .queues) ≡ 8 → x .frames ≤ 8 * mostFrames
     unfolding viewPort
     few-held n = omega (arith, frames-are, frames-few (viewQueues (p .queues)) mostFrames (λ q. go q (decLe 8 q)), length-shown (p .queues))
       where

@@ -2,6 +2,7 @@
 use mathlib.Core.List.{List, [], map}
 use lib.ListN.{replicate}
 use Rattle.model.specs.Basics.{entries}
+use Rattle.model.specs.Units.{mostFrames}
 use Rattle.model.specs.Table.{Table, blankTable}
 use Rattle.model.specs.Port.{Account, Port, blankAccount, fullAccount}
 use Rattle.table.specs.declared.Table.{Table as TableRecord}
@@ -22,7 +23,7 @@ viewPort p = viewParts (p .table) (p .clock) (p .queues) (p .sender) (p .gate)
 
 -- ---- the fresh record
 abbrev pub emptyQueue : Queue
-emptyQueue = record { count = 0; mark = 0; frames = replicate 195 blankEntry }
+emptyQueue = record { count = 0; mark = 0; frames = replicate mostFrames blankEntry }
 
 -- a record with nothing held, and these accounts before blank ones
 unfoldable pub restingPort : TableRecord → List Account → PortRecord

@@ -7,6 +7,7 @@ use port_scheduler::Frame;
 use port_scheduler::Queue;
 use port_scheduler::Sender;
 use table::Table;
+use units::MOST_FRAMES;
 ghost use mathlib.Core.Path.{_≡_};
 ghost use Rattle.port.specs.Contracts.{recordFresh};
 ghost use Rattle.port.specs.Resting.{restingWith};
@@ -23,7 +24,7 @@ fn resting_with(table: Table, accounts: [Account; 256]) -> Port
     let queue = Queue {
         count: 0,
         mark: 0,
-        frames: [entry; 195],
+        frames: [entry; MOST_FRAMES],
     };
     Port {
         table,

@@ -5,10 +5,8 @@ use libc::STDIN_FILENO;
 use libc::STDOUT_FILENO;
 use little_endian::read4;
 use port::Port;
+use units::LIST_ROOM;
 ghost use Prim.Native.Nat.{_≤_};
-
-// Room for the departures of a full port.
-const ROOM: usize = 4680;
 
 fn main() {
     let mut head = [0u8; 24];
@@ -42,7 +40,7 @@ fn run(file: &[u8], frames: u64, waits: u64, reports: u64)
 fn filled(mut port: Port, frames: u64) -> Port
     requires { ⌜ frames ≤ 4294967295 ⌝ }
 {
-    let mut list = [0u64; ROOM];
+    let mut list = [0u64; LIST_ROOM];
     let mut i: u64 = 0;
     while i < frames {
         port = framed(port, 84 * (i / 24 + 1), i % 24, i % 240, &mut list);
@@ -51,7 +49,7 @@ fn filled(mut port: Port, frames: u64) -> Port
     port
 }
 
-fn framed(port: Port, tick: u64, line: u64, number: u64, list: &mut [u64; ROOM]) -> Port {
+fn framed(port: Port, tick: u64, line: u64, number: u64, list: &mut [u64; LIST_ROOM]) -> Port {
     let a = port.frame(tick, line, number, 84, list);
     a.port
 }
@@ -60,7 +58,7 @@ fn framed(port: Port, tick: u64, line: u64, number: u64, list: &mut [u64; ROOM])
 fn waited(mut port: Port, waits: u64) -> Port
     requires { ⌜ waits ≤ 4294967295 ⌝ }
 {
-    let mut list = [0u64; ROOM];
+    let mut list = [0u64; LIST_ROOM];
     let tick = port.clock;
     let mut i: u64 = 0;
     while i < waits {
@@ -71,7 +69,7 @@ fn waited(mut port: Port, waits: u64) -> Port
 }
 
 // Each is given the port that the one before handed back.
-fn four_waits(port: Port, tick: u64, list: &mut [u64; ROOM]) -> Port {
+fn four_waits(port: Port, tick: u64, list: &mut [u64; LIST_ROOM]) -> Port {
     let a = port.wait(tick, list);
     let first = a.port;
     let b = first.wait(tick, list);

@@ -14,9 +14,10 @@ use port::Answer;
 use port::Port;
 use port_scheduler::Queue;
 use sums::LIST;
+use units::MOST_FRAMES;
 
 // The longest record of a case.
-const BODY: usize = 30000;
+const BODY: usize = 12000 + 96 * MOST_FRAMES;
 
 const REPORT: usize = 35;
 
@@ -144,7 +145,7 @@ fn say_end(port: Port, whole: bool) {
 
 // The bytes of the frames up to the count, as far as the array goes.
 fn held(q: Queue) -> u64 {
-    let n = least(q.count as usize, 195);
+    let n = least(q.count as usize, MOST_FRAMES);
     let mut r = q;
     r.count = n as u16;
     port_scheduler::held(r)

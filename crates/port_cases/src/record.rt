@@ -13,7 +13,9 @@ use port_scheduler::Queue;
 use port_scheduler::Sender;
 use table::Table;
 use table::VirtualLink;
-ghost use Prim.Native.Nat.{_≤_};
+use units::MOST_FRAMES;
+ghost use Prim.Native.Nat.{_+_, _*_, _≤_};
+ghost use Rattle.model.specs.Units.{mostFrames};
 
 // Lines, count, links, sizes.
 pub(crate) fn table_at(s: &[u8], at: usize) -> Table
@@ -143,9 +145,9 @@ fn frame_at(s: &[u8], at: usize) -> Frame
 fn queue_at(s: &[u8], at: usize) -> Queue
     requires { ⌜ at ≤ 60000 ⌝ }
 {
-    let n = given(s, at + 18, 195);
+    let n = given(s, at + 18, MOST_FRAMES);
     let last = frame_at(s, at + 6);
-    let mut frames = [last; 195];
+    let mut frames = [last; MOST_FRAMES];
     for i in 0..n {
         frames[i] = frame_at(s, at + 20 + 12 * i);
     }
@@ -158,9 +160,9 @@ fn queue_at(s: &[u8], at: usize) -> Queue
 
 fn queue_length(s: &[u8], at: usize) -> usize
     requires { ⌜ at ≤ 60000 ⌝ }
-    ensures { λ r. ⌜ r ≤ 2400 ⌝ }
+    ensures { λ r. ⌜ r ≤ 20 + 12 * mostFrames ⌝ }
 {
-    20 + 12 * given(s, at + 18, 195)
+    20 + 12 * given(s, at + 18, MOST_FRAMES)
 }
 
 fn queues_at(s: &[u8], from: usize) -> [Queue; 8]

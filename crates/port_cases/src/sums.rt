@@ -7,10 +7,13 @@ use port_scheduler::Queue;
 use port_scheduler::Sender;
 use table::Table;
 use table::VirtualLink;
+use units::LIST_ROOM;
+use units::MOST_FRAMES;
 ghost use Prim.Native.Nat.{_≤_};
+ghost use Rattle.model.specs.Units.{mostFrames};
 
-// The longest list that is lent.
-pub(crate) const LIST: usize = 4700;
+// The longest list that is lent: some numbers more than a full port can free.
+pub(crate) const LIST: usize = LIST_ROOM + 20;
 
 const NOTHING: u64 = 2166136261;
 
@@ -70,12 +73,12 @@ fn with_sizes(sum: u64, t: Table) -> u64 {
 
 // A queue's frames up to its count, or all of them.
 fn shown(count: u16, whole: bool) -> usize
-    ensures { λ r. ⌜ r ≤ 195 ⌝ }
+    ensures { λ r. ⌜ r ≤ mostFrames ⌝ }
 {
     if whole {
-        return 195;
+        return MOST_FRAMES;
     }
-    least(count as usize, 195)
+    least(count as usize, MOST_FRAMES)
 }
 
 fn with_queue(sum: u64, q: Queue, whole: bool) -> u64 {

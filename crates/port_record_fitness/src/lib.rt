@@ -4,6 +4,7 @@ use port_queue_fitness::Fitness;
 use port_scheduler::Queue;
 use port_scheduler::Sender;
 use table::Table;
+use units::LAST_TICK;
 ghost use mathlib.Core.Path.{_≡_};
 ghost use Rattle.port_record_fitness.specs.Fitness.{tableFits, portFitness};
 
@@ -14,7 +15,7 @@ fn table_fits(t: Table, clock: u64) -> bool
     if table::check(t) != 0 {
         return false;
     }
-    clock <= 281474976710655
+    clock <= LAST_TICK
 }
 
 // Whether the record of these parts is fit, condition by condition, and how many frames it holds, if it is.

@@ -1,17 +1,17 @@
 -- The refusals of a report, in the order in which the code tests.
 use mathlib.Core.Path.{_≡_, sym, _∙_}
-use mathlib.Core.Bool.{Bool, not}
+use mathlib.Core.Bool.{Bool, true, false, not}
 use mathlib.Core.List.{List, [], _∷_}
 use Prim.Native.Nat.{ℕ, _+_, _*_, _≤_, _<_}
 use native.Mathlib.Omega.{arith}
 use lib.Dec.{leb, ltb}
-use borrow.Author.Tests.{le-leb, lt-leb, lt-ltb, le-ltb}
+use borrow.Author.Tests.{leb-true, le-leb, lt-leb, lt-ltb, le-ltb}
 use lib.ListN.{getD}
 use Rattle.model.specs.Basics.{entries, allHold, check, firstMet}
 use Rattle.model.specs.Units.{lastTick, leastLength, greatestLength}
 use Rattle.model.specs.Port.{lineTick}
 use Rattle.model.specs.Report.{Report, wait, frame, tickOf, frameChecks, reportChecks, roomCheck}
-use Rattle.model.proofs.Checks.{first-here, first-later, first-none}
+use Rattle.model.proofs.Checks.{all-true, first-here, first-later, first-none}
 use Rattle.model.proofs.Entries.{getD-entries}
 
 -- ---- 13 to 15
@@ -26,34 +26,29 @@ module _ {r : Report} (lines : ℕ) (ticks : List ℕ) where
     no-line h = rw x (sym (first-here _ _ (le-leb lines line h)))
 
     module _ (h : line < lines) where
-      abbrev wrong : Bool
-      wrong = not (allHold (leb leastLength len ∷ leb len greatestLength ∷ []))
+      abbrev right : Bool
+      right = allHold (leb leastLength len ∷ leb len greatestLength ∷ [])
 
-      pub too-short : len < leastLength → 14 ≡ firstMet (frameChecks lines (entries 0 lines ticks) r)
-      unfolding frameChecks allHold
-      too-short k = rw x (sym (first-later (check 13 (leb lines line)) _ (lt-leb lines line h) ∙ first-here (check 14 wrong) _ (rw (lt-leb leastLength len k))))
+      pub wrong-length : right ≡ false → 14 ≡ firstMet (frameChecks lines (entries 0 lines ticks) r)
+      unfolding frameChecks
+      wrong-length k = rw x (sym (first-later (check 13 (leb lines line)) _ (lt-leb lines line h) ∙ first-here (check 14 (not right)) _ (rw k)))
 
-      module _ (a : leastLength ≤ len) where
-        pub too-long : greatestLength < len → 14 ≡ firstMet (frameChecks lines (entries 0 lines ticks) r)
-        unfolding frameChecks allHold
-        too-long k =
-            rw x (sym (first-later (check 13 (leb lines line)) _ (lt-leb lines line h) ∙ first-here (check 14 wrong) _ (rw (le-leb leastLength len a, lt-leb len greatestLength k))))
+      module _ (a : right ≡ true) where
+        past-length : firstMet (frameChecks lines (entries 0 lines ticks) (frame time line number len)) ≡ firstMet (check 15 (ltb time (lineTick (entries 0 lines ticks) line + len)) ∷ [])
+        unfolding frameChecks
+        past-length = first-later (check 13 (leb lines line)) _ (lt-leb lines line h) ∙ first-later (check 14 (not right)) _ (rw a)
 
-        module _ (b : len ≤ greatestLength) where
-          past-length : firstMet (frameChecks lines (entries 0 lines ticks) (frame time line number len)) ≡ firstMet (check 15 (ltb time (lineTick (entries 0 lines ticks) line + len)) ∷ [])
-          unfolding frameChecks allHold
-          past-length =
-              first-later (check 13 (leb lines line)) _ (lt-leb lines line h)
-              ∙ first-later (check 14 wrong) _ (rw (le-leb leastLength len a, le-leb len greatestLength b))
+        pub short : len ≤ greatestLength
+        short = leb-true len greatestLength (all-true _ a .1 .0)
 
-          pub tick-is : lineTick (entries 0 lines ticks) line ≡ getD ticks line 0
-          tick-is = getD-entries 0 lines ticks line h
+        tick-is : lineTick (entries 0 lines ticks) line ≡ getD ticks line 0
+        tick-is = getD-entries 0 lines ticks line h
 
-          pub overlaps : time < getD ticks line 0 + len → 15 ≡ firstMet (frameChecks lines (entries 0 lines ticks) r)
-          overlaps k = rw x (sym (past-length ∙ first-here (check 15 _) _ (lt-ltb time _ (omega (arith, tick-is)))))
+        pub overlaps : time < getD ticks line 0 + len → 15 ≡ firstMet (frameChecks lines (entries 0 lines ticks) r)
+        overlaps k = rw x (sym (past-length ∙ first-here (check 15 _) _ (lt-ltb time _ (omega (arith, tick-is)))))
 
-          pub in-order : getD ticks line 0 + len ≤ time → 0 ≡ firstMet (frameChecks lines (entries 0 lines ticks) r)
-          in-order k = rw x (sym (past-length ∙ first-none (check 15 _ ∷ []) (le-ltb time _ (omega (arith, tick-is)), tt)))
+        pub in-order : getD ticks line 0 + len ≤ time → 0 ≡ firstMet (frameChecks lines (entries 0 lines ticks) r)
+        in-order k = rw x (sym (past-length ∙ first-none (check 15 _ ∷ []) (le-ltb time _ (omega (arith, tick-is)), tt)))
 
 -- ---- 11 to 15
 module _ (clock lines : ℕ) (ticks : List ℕ) (r : Report) where

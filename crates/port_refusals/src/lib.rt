@@ -1,9 +1,11 @@
 // Internal to the product: reports, and their refusals 11 to 16 over numbers of a port that is fit.
 use numbers::u16_as_u64;
+use units::LAST_TICK;
 ghost use mathlib.Core.Path.{_≡_};
 ghost use mathlib.Core.List.{[], _∷_};
-ghost use Prim.Native.Nat.{_≤_};
+ghost use Prim.Native.Nat.{_*_, _≤_};
 ghost use Rattle.model.specs.Basics.{entries, firstMet};
+ghost use Rattle.model.specs.Units.{mostFrames};
 ghost use Rattle.model.specs.Report.{tickOf, frameChecks, reportChecks, roomCheck};
 ghost use Rattle.port_refusals.specs.Reports.{viewReport, Clocked};
 
@@ -33,10 +35,7 @@ fn frame_refusal(lines: u16, ticks: [u64; 24], report: Report) -> u32
     if u16_as_u64(lines) <= line {
         return 13;
     }
-    if length < 84 {
-        return 14;
-    }
-    if 1538 < length {
+    if !units::is_length(length) {
         return 14;
     }
     let i = line as usize;
@@ -52,7 +51,7 @@ pub fn refusal(clock: u64, lines: u16, ticks: [u64; 24], report: Report) -> u32
     ensures { λ r. ⌜ r ≡ firstMet (reportChecks clock lines (entries 0 lines ticks) (viewReport report)) ⌝ }
 {
     let time = tick_of(report);
-    if 281474976710655 < time {
+    if LAST_TICK < time {
         return 11;
     }
     if time < clock {
@@ -63,7 +62,7 @@ pub fn refusal(clock: u64, lines: u16, ticks: [u64; 24], report: Report) -> u32
 
 // 16, of a port that holds so many frames and a list of so much room.
 pub fn room_refusal(frames: u64, room: usize) -> u32
-    requires { ⌜ frames ≤ 1560 ⌝ }
+    requires { ⌜ frames ≤ 8 * mostFrames ⌝ }
     ensures { λ r. ⌜ r ≡ firstMet (roomCheck frames room ∷ []) ⌝ }
 {
     if (room as u64) < 3 * frames {

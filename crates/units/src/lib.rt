@@ -6,7 +6,7 @@ ghost use mathlib.Core.List.{[], _∷_};
 ghost use Prim.Native.Nat.{_≤_};
 ghost use lib.Dec.{leb};
 ghost use Rattle.model.specs.Basics.{allHold};
-ghost use Rattle.model.specs.Units.{lastTick, leastLength, greatestLength, occupied};
+ghost use Rattle.model.specs.Units.{leastLength, greatestLength, occupied};
 
 // A port clock runs from 0 to this tick, 2^48 − 1.
 pub const LAST_TICK: u64 = 281474976710655;
@@ -26,12 +26,6 @@ pub const MOST_FRAMES: usize = 195;
 pub const MOST_HELD: usize = 8 * MOST_FRAMES;
 
 pub const LIST_ROOM: usize = 3 * MOST_HELD;
-
-pub fn is_tick(tick: u64) -> bool
-    ensures { λ r. ⌜ r ≡ leb tick lastTick ⌝ }
-{
-    tick <= LAST_TICK
-}
 
 pub fn is_length(bytes: u64) -> bool
     ensures { λ r. ⌜ r ≡ allHold (leb leastLength bytes ∷ leb bytes greatestLength ∷ []) ⌝ }

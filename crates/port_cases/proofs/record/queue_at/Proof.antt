@@ -3,11 +3,12 @@ use Prim.Native.Nat.{_≤_, _-_}
 use mathlib.Core.Path.{_≡_}
 use lib.ListN.{length}
 use borrow.Author.Needs.{needs}
+use Rattle.model.specs.Units.{mostFrames}
 use Rattle.port_cases.proofs.record.queue_at.Statement.{statement}
 use Rattle.port_cases.proofs.record.queue_at.Tie as tie
 
 abbrev Inv-loop : tie.InvT-loop
-Inv-loop s at n frames₀ i₀ frames i = (i ≤ n) × (n ≤ 195) × (length frames ≡ 195)
+Inv-loop s at n frames₀ i₀ frames i = (i ≤ n) × (n ≤ mostFrames) × (length frames ≡ mostFrames)
 
 abbrev μ-loop : tie.MeasureT-loop
 μ-loop s at n frames₀ i₀ frames i = n - i

@@ -3,11 +3,12 @@ use mathlib.Core.Path.{_≡_}
 use lib.ListN.{length}
 use Prim.Native.Nat.{_≤_, _-_, _+_, _*_}
 use borrow.Author.Needs.{needs}
+use Rattle.model.specs.Units.{mostFrames}
 use Rattle.port_cases.proofs.record.queues_at.Statement.{statement}
 use Rattle.port_cases.proofs.record.queues_at.Tie as tie
 
 abbrev Inv-loop : tie.InvT-loop
-Inv-loop s from queues₀ at₀ p₀ queues at p = (p ≤ 8) × (length queues ≡ 8) × (at ≤ 20000 + 2400 * p)
+Inv-loop s from queues₀ at₀ p₀ queues at p = (p ≤ 8) × (length queues ≡ 8) × (at ≤ 20000 + (20 + 12 * mostFrames) * p)
 
 abbrev μ-loop : tie.MeasureT-loop
 μ-loop s from queues₀ at₀ p₀ queues at p = 8 - p

@@ -1,11 +1,12 @@
 -- `port_cases::sums::of_list` is safe and ends: it stays within the list. Assumes nothing.
-use Prim.Native.Nat.{_≤_, _-_}
+use Prim.Native.Nat.{_+_, _*_, _≤_, _-_}
 use borrow.Author.Needs.{needs}
+use Rattle.model.specs.Units.{mostFrames}
 use Rattle.port_cases.proofs.sums.of_list.Statement.{statement}
 use Rattle.port_cases.proofs.sums.of_list.Tie as tie
 
 abbrev Inv-loop : tie.InvT-loop
-Inv-loop list n end sum₀ i₀ sum i = (i ≤ end) × (end ≤ 4700)
+Inv-loop list n end sum₀ i₀ sum i = (i ≤ end) × (end ≤ 24 * mostFrames + 20)
 
 abbrev μ-loop : tie.MeasureT-loop
 μ-loop list n end sum₀ i₀ sum i = end - i

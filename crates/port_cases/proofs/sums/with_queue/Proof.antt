@@ -1,11 +1,12 @@
 -- `port_cases::sums::with_queue` is safe and ends: it stays within the frames. Assumes nothing.
 use Prim.Native.Nat.{_≤_, _-_}
 use borrow.Author.Needs.{needs}
+use Rattle.model.specs.Units.{mostFrames}
 use Rattle.port_cases.proofs.sums.with_queue.Statement.{statement}
 use Rattle.port_cases.proofs.sums.with_queue.Tie as tie
 
 abbrev Inv-loop : tie.InvT-loop
-Inv-loop sum whole q n r₀ i₀ r i = (i ≤ n) × (n ≤ 195)
+Inv-loop sum whole q n r₀ i₀ r i = (i ≤ n) × (n ≤ mostFrames)
 
 abbrev μ-loop : tie.MeasureT-loop
 μ-loop sum whole q n r₀ i₀ r i = n - i
