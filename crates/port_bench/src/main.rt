@@ -84,7 +84,7 @@ fn four_waits(port: Port, tick: u64, list: &mut [u64; LIST_ROOM]) -> Port {
 fn reported(mut port: Port, reports: u64) -> Port
     requires { ⌜ reports ≤ 4294967295 ⌝ }
 {
-    let mut list = [0u64; ROOM];
+    let mut list = [0u64; LIST_ROOM];
     let mut i: u64 = 0;
     while i < reports {
         port = four_frames(port, 84 * (i + 1), i % 24, i % 240, &mut list);
@@ -93,7 +93,7 @@ fn reported(mut port: Port, reports: u64) -> Port
     port
 }
 
-fn four_frames(port: Port, tick: u64, line: u64, number: u64, list: &mut [u64; ROOM]) -> Port
+fn four_frames(port: Port, tick: u64, line: u64, number: u64, list: &mut [u64; LIST_ROOM]) -> Port
     requires { ⌜ (tick ≤ 1099511627776) × (line ≤ 24) × (number ≤ 240) ⌝ }
 {
     let a = port.frame(tick, line, number, 84, list);
