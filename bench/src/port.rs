@@ -1,5 +1,6 @@
-//! A report with its fitness check, on a port with so many queued frames: the product, in a program of its own that
-//! waits four times in a row, over and over, beside a plain Rust port that is lent and not copied.
+//! A report with its fitness check: a wait on a port with so many queued frames, and a frame on a port that holds the one
+//! before it. The product, in a program of its own that makes four reports in a row, over and over, beside a plain Rust
+//! port that is lent and not copied.
 
 use crate::table::{file_of, Link, Table};
 use std::hint::black_box;
@@ -7,7 +8,7 @@ use std::io::Write;
 use std::process::{Command, Stdio};
 use std::time::Instant;
 
-const WAITS: u64 = 40_000;
+const REPORTS: u64 = 40_000;
 const FRAME: u64 = 84;
 
 /// 240 links on 24 lines, eight priorities; each link may send 11 frames at once.
@@ -28,7 +29,7 @@ fn table() -> Table {
 }
 
 /// Seconds that the program takes, and the frames that it says are queued.
-fn product(file: &[u8], frames: u64, waits: u64) -> (f64, u64) {
+fn product(file: &[u8], frames: u64, waits: u64, reports: u64) -> (f64, u64) {
     let start = Instant::now();
     let mut child = Command::new(concat!(env!("CARGO_MANIFEST_DIR"), "/../target/bin/port_bench"))
         .stdin(Stdio::piped())
@@ -36,7 +37,7 @@ fn product(file: &[u8], frames: u64, waits: u64) -> (f64, u64) {
         .spawn()
         .expect("bench/run builds it");
     let input = child.stdin.as_mut().expect("piped");
-    for part in [&frames.to_le_bytes()[..], &waits.to_le_bytes()[..], file] {
+    for part in [&frames.to_le_bytes()[..], &waits.to_le_bytes()[..], &reports.to_le_bytes()[..], file] {
         input.write_all(part).expect("it reads all");
     }
     let output = child.wait_with_output().expect("it ends").stdout;
@@ -102,20 +103,55 @@ impl Port {
         each && q.frames.len() <= 195 && held <= q.mark && q.mark <= self.table.sizes[p]
     }
 
-    /// A wait at the clock: everything is tested, and nothing leaves.
-    fn wait(&mut self, tick: u64, list: &mut [u64]) -> u32 {
-        if !self.fit() {
-            return 10;
-        }
-        if tick < self.clock {
-            return 12;
-        }
+    fn refused(&self, tick: u64, list: &[u64]) -> bool {
         let held: usize = self.queues.iter().map(|q| q.frames.len()).sum();
-        if list.len() < 3 * held {
-            return 16;
+        !self.fit() || tick < self.clock || list.len() < 3 * held
+    }
+
+    /// A wait at the clock: everything is tested, and nothing leaves.
+    fn wait(&mut self, tick: u64, list: &mut [u64]) -> bool {
+        let accepted = !self.refused(tick, list);
+        if accepted {
+            self.clock = tick;
+        }
+        accepted
+    }
+
+    /// A frame, by when the one before it has wholly left; true if it is stored.
+    fn frame(&mut self, tick: u64, line: u64, number: u64, length: u64, list: &mut [u64]) -> bool {
+        if self.refused(tick, list) || tick < self.line_ticks[line as usize] + length {
+            return false;
+        }
+        for q in &mut self.queues {
+            if let Some(f) = q.frames.pop() {
+                list[..3].copy_from_slice(&[u64::from(f.number), u64::from(f.length), tick]);
+            }
         }
         self.clock = tick;
-        0
+        self.line_ticks[line as usize] = tick;
+        let links = &self.table.links[..usize::from(self.table.count)];
+        let Ok(i) = links.binary_search_by_key(&(number as u16), |v| v.number) else {
+            return false;
+        };
+        let v = links[i];
+        if u64::from(v.line) != line || length < u64::from(v.least) || u64::from(v.greatest) < length {
+            return false;
+        }
+        let account = &mut self.accounts[i];
+        account.0 = (12_500 + u64::from(v.jitter)).min(account.0 + tick - account.1);
+        account.1 = tick;
+        if account.0 < 12_500 {
+            return false;
+        }
+        account.0 -= 12_500;
+        let queue = &mut self.queues[usize::from(v.priority)];
+        let held = length as u32 + queue.frames.iter().map(|f| u32::from(f.length)).sum::<u32>();
+        if held > self.table.sizes[usize::from(v.priority)] {
+            return false;
+        }
+        queue.frames.push(Frame { number: v.number, length: length as u16, arrival: tick });
+        queue.mark = queue.mark.max(held);
+        true
     }
 }
 
@@ -123,10 +159,31 @@ fn peer(each: [usize; 8]) -> f64 {
     let mut port = Port::with(table(), each);
     let mut list = vec![0; 4_680];
     let start = Instant::now();
-    for _ in 0..WAITS {
-        assert_eq!(black_box(&mut port).wait(0, black_box(&mut list)), 0);
+    for _ in 0..REPORTS {
+        assert!(black_box(&mut port).wait(0, black_box(&mut list)));
     }
-    start.elapsed().as_secs_f64() / WAITS as f64
+    start.elapsed().as_secs_f64() / REPORTS as f64
+}
+
+fn peer_of_frames() -> f64 {
+    let mut port = Port::with(table(), [0; 8]);
+    let mut list = vec![0; 4_680];
+    let start = Instant::now();
+    for i in 0..REPORTS {
+        assert!(black_box(&mut port).frame(FRAME * (i + 1), i % 24, i % 240, FRAME, black_box(&mut list)));
+    }
+    start.elapsed().as_secs_f64() / REPORTS as f64
+}
+
+/// The least time of a report, and the frames that are queued at the end.
+fn least(call: impl Fn(u64) -> (f64, u64)) -> (f64, u64) {
+    let (base, queued) = call(4);
+    let times: Vec<f64> = (0..5).map(|_| call(REPORTS).0 - base).collect();
+    (times.into_iter().fold(f64::MAX, f64::min) / REPORTS as f64, queued)
+}
+
+fn line(what: &str, ours: f64, theirs: f64) {
+    println!("{:<44} {:>9.0} ns {:>9.0} ns {:>7.2}", what, ours * 1e9, theirs * 1e9, ours / theirs);
 }
 
 pub fn run() {
@@ -134,11 +191,9 @@ pub fn run() {
     println!("{:<44} {:>12} {:>12} {:>7}", "a report with the fitness check", "product", "peer", "ratio");
     // some have left by the last arrival, some were dropped: 0, 100 and 1,000 are queued
     for frames in [0, 104, 1_065] {
-        let (base, queued) = product(&file, frames, 1);
-        let times: Vec<f64> = (0..5).map(|_| product(&file, frames, WAITS).0 - base).collect();
-        let least = times.into_iter().fold(f64::MAX, f64::min) / WAITS as f64;
-        let other = peer([queued as usize / 8; 8]);
-        let what = format!("  {queued} frames queued");
-        println!("{:<44} {:>9.0} ns {:>9.0} ns {:>7.2}", what, least * 1e9, other * 1e9, least / other);
+        let (ours, queued) = least(|waits| product(&file, frames, waits, 0));
+        line(&format!("  a wait, {queued} frames queued"), ours, peer([queued as usize / 8; 8]));
     }
+    let (ours, _) = least(|reports| product(&file, 0, 0, reports));
+    line("  a frame, the one before it leaves", ours, peer_of_frames());
 }

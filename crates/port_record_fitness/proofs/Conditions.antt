@@ -68,17 +68,17 @@ queues-parts t clock queues =
     8
 
 -- ---- table and clock
-module _ (t : TableRecord) (clock : ℕ) where
-  pub table-unfit : (tableRefusal (viewTable t) ≡ 0 → ⊥) → false ≡ tableFits t clock
+module _ (refused clock : ℕ) where
+  pub table-unfit : (refused ≡ 0 → ⊥) → false ≡ tableFits refused clock
   unfolding allHold
-  table-unfit h = rw (ne-eqb (tableRefusal (viewTable t)) 0 h)
+  table-unfit h = rw (ne-eqb refused 0 h)
 
-  pub table-fit : tableRefusal (viewTable t) ≡ 0 → leb clock lastTick ≡ tableFits t clock
+  pub table-fit : refused ≡ 0 → leb clock lastTick ≡ tableFits refused clock
   unfolding allHold
-  table-fit h = rw (eq-eqb (tableRefusal (viewTable t)) 0 h, and-true)
+  table-fit h = rw (eq-eqb refused 0 h, and-true)
 
-  pub table-passes : tableFits t clock ≡ true → tableRefusal (viewTable t) ≡ 0
-  table-passes e = eqb-true (tableRefusal (viewTable t)) 0 (all-true _ e .0)
+  pub table-passes : tableFits refused clock ≡ true → refused ≡ 0
+  table-passes e = eqb-true refused 0 (all-true _ e .0)
 
 -- ---- the whole
 module _ (t : TableRecord) (clock : ℕ) (queues : List Queue) (sender : SenderRecord) (gate : GateRecord) where
@@ -87,7 +87,7 @@ module _ (t : TableRecord) (clock : ℕ) (queues : List Queue) (sender : SenderR
 
   abbrev conditions : List Bool
   conditions =
-      tableFits t clock
+      tableFits (tableRefusal (viewTable t)) clock
       ∷ allHold (queuesFit t clock queues ∷ senderFit clock (viewQueues queues) (viewSender sender) ∷ [])
       ∷ linesFit (gate .«line_ticks») (t .lines) clock
       ∷ allHold (ticksFit (gate .accounts) (t .count) clock ∷ creditsFit (gate .accounts) t ∷ [])

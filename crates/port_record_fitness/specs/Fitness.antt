@@ -5,7 +5,6 @@ use Prim.Native.Nat.{ℕ}
 use lib.Dec.{eqb, leb}
 use Rattle.model.specs.Basics.{allHold}
 use Rattle.model.specs.Units.{lastTick}
-use Rattle.model.specs.Table.{tableRefusal}
 use Rattle.model.specs.Machine.{framesHeld}
 use Rattle.model.specs.Fitness.{fit}
 use Rattle.table.specs.declared.Table.{Table as TableRecord}
@@ -18,9 +17,9 @@ use Rattle.port_queue_fitness.specs.declared.Fitness.{Fitness}
 use Rattle.port_queue_fitness.specs.Queues.{fitnessIf}
 use Rattle.port_record_fitness.specs.View.{viewParts}
 
--- "its table passes 3 to 6; clock ≤ 2^48 − 1"
-abbrev pub tableFits : TableRecord → ℕ → Bool
-tableFits t clock = allHold (eqb (tableRefusal (viewTable t)) 0 ∷ leb clock lastTick ∷ [])
+-- "its table passes 3 to 6; clock ≤ 2^48 − 1", by the refusal of the table
+abbrev pub tableFits : ℕ → ℕ → Bool
+tableFits refused clock = allHold (eqb refused 0 ∷ leb clock lastTick ∷ [])
 
 -- whether the record of these parts is fit, and the frames held if so, else 0
 abbrev pub portFitness : TableRecord → ℕ → List Queue → SenderRecord → GateRecord → Fitness

@@ -9,10 +9,10 @@ ghost use mathlib.Core.Path.{_≡_};
 ghost use Rattle.port_record_fitness.specs.Fitness.{tableFits, portFitness};
 
 // The table passes 3 to 6, and the clock is not past the last tick.
-fn table_fits(t: Table, clock: u64) -> bool
-    ensures { λ r. ⌜ r ≡ tableFits t clock ⌝ }
+fn table_fits(refused: u32, clock: u64) -> bool
+    ensures { λ r. ⌜ r ≡ tableFits refused clock ⌝ }
 {
-    if table::check(t) != 0 {
+    if refused != 0 {
         return false;
     }
     clock <= LAST_TICK
@@ -22,7 +22,7 @@ fn table_fits(t: Table, clock: u64) -> bool
 pub fn fit(t: Table, clock: u64, queues: [Queue; 8], sender: Sender, gate: Gate) -> Fitness
     ensures { λ r. ⌜ r ≡ portFitness t clock queues sender gate ⌝ }
 {
-    if !table_fits(t, clock) {
+    if !table_fits(table::check(t), clock) {
         return port_queue_fitness::unfit();
     }
     let queued = port_queue_fitness::queues_fit(t, queues, sender, clock);
