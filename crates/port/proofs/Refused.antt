@@ -2,21 +2,16 @@
 use mathlib.Core.Path.{_≡_, refl, sym, ap, _∙_}
 use mathlib.Core.Bool.{Bool, true, false}
 use mathlib.Core.List.{[], _∷_}
-use Prim.Native.Nat.{ℕ, zero, suc, _*_, _≤_}
-use native.Mathlib.Decide.{decLe}
+use Prim.Native.Nat.{ℕ, zero, suc}
 use native.Mathlib.Omega.{arith}
-use lib.ListN.{length, List·getD-eq-default}
 use Rattle.model.specs.Basics.{provided, firstMet, firstRefusal}
-use Rattle.model.specs.Units.{mostFrames}
-use Rattle.model.specs.Machine.{queueOf, framesHeld}
+use Rattle.model.specs.Machine.{framesHeld}
 use Rattle.model.specs.Fitness.{fit}
 use Rattle.model.specs.Report.{Report, reportChecks, roomCheck, reportRefusal}
 use Rattle.model.proofs.Refusals.{refusal-unfit, refusal-fit}
 use Rattle.model.proofs.Fitness.{FitPort, fit-is}
 use Rattle.table.specs.View.{viewTable}
 use Rattle.port_scheduler.specs.View.{viewQueues}
-use Rattle.port_scheduler.proofs.Shown.{length-shown}
-use Rattle.port_scheduler.proofs.Sums.{frames-few}
 use Rattle.port_queue_fitness.specs.declared.Fitness.{Fitness}
 use Rattle.port_record_fitness.specs.Fitness.{portFitness}
 use Rattle.port_refusals.specs.Reports.{Clocked}
@@ -43,15 +38,6 @@ module _ (p : PortRecord) {x : Fitness} (tested : x ≡ portFitness (p .table) (
     pub clocked : Clocked (p .gate .«line_ticks») (p .table .lines)
     unfolding viewTable viewPort
     clocked = record { few = is-fit .table .counts .lines-most; early = λ ℓ l. omega (arith, is-fit .gate .lines-past ℓ l, is-fit .early) }
-
-    -- 16 of eight full queues at most
-    pub few-held : length (p .queues) ≡ 8 → x .frames ≤ 8 * mostFrames
-    unfolding viewPort
-    few-held n = omega (arith, frames-are, frames-few (viewQueues (p .queues)) mostFrames (λ q. go q (decLe 8 q)), length-shown (p .queues))
-      where
-        go : (q : ℕ) → Dec (8 ≤ q) → length (queueOf (viewQueues (p .queues)) q) ≤ mostFrames
-        go q (yes l) = rw (List·getD-eq-default (viewQueues (p .queues)) [] {n = q} (omega (arith, length-shown (p .queues)))) (omega arith)
-        go q (no l) = is-fit .few q (omega arith)
 
     module _ (r : Report) (room : ℕ) {n : ℕ} (later : n ≡ firstMet (reportChecks (p .clock) (p .table .lines) (viewPort p .gate .lineTicks) r)) where
       by-parts : reportRefusal (viewPortTable p) (viewPort p) r room ≡ firstRefusal n (firstMet (roomCheck (x .frames) room ∷ []))

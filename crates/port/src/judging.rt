@@ -31,7 +31,7 @@ fn store(mut p: Port, i: usize, length: u64) -> Judged
 {
     let t = p.table;
     let link = t.links[i];
-    let f = port_storing::arrived(t.numbers[i], length, p.clock);
+    let f = port_storing::arrived(t.numbers[i], length as u16, p.clock);
     let k = link.priority as usize;
     let s = port_storing::settle(p.queues[k], t.sizes[k], f);
     let kept = s.queue;

@@ -3,9 +3,7 @@ use numbers::u16_as_u64;
 use units::LAST_TICK;
 ghost use mathlib.Core.Path.{_≡_};
 ghost use mathlib.Core.List.{[], _∷_};
-ghost use Prim.Native.Nat.{_*_, _≤_};
 ghost use Rattle.model.specs.Basics.{entries, firstMet};
-ghost use Rattle.model.specs.Units.{mostFrames};
 ghost use Rattle.model.specs.Report.{tickOf, frameChecks, reportChecks, roomCheck};
 ghost use Rattle.port_refusals.specs.Reports.{viewReport, Clocked};
 
@@ -60,12 +58,11 @@ pub fn refusal(clock: u64, lines: u16, ticks: [u64; 24], report: Report) -> u32
     frame_refusal(lines, ticks, report)
 }
 
-// 16, of a port that holds so many frames and a list of so much room.
+// 16, of a port that holds so many frames and a list of so much room; no product wraps.
 pub fn room_refusal(frames: u64, room: usize) -> u32
-    requires { ⌜ frames ≤ 8 * mostFrames ⌝ }
     ensures { λ r. ⌜ r ≡ firstMet (roomCheck frames room ∷ []) ⌝ }
 {
-    if (room as u64) < 3 * frames {
+    if (room as u64) / 3 < frames {
         return 16;
     }
     0

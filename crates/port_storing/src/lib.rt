@@ -3,7 +3,7 @@ use numbers::u32_as_u64;
 use port_scheduler::Frame;
 use port_scheduler::Queue;
 ghost use mathlib.Core.Path.{_≡_};
-ghost use Prim.Native.Nat.{_+_, _≤_, _<_, _^_, max};
+ghost use Prim.Native.Nat.{_+_, _<_, _^_, max};
 ghost use lib.Dec.{leb};
 ghost use Rattle.model.specs.Units.{mostFrames};
 ghost use Rattle.port_storing.specs.Storing.{Stored, Roomy, Settles};
@@ -61,13 +61,12 @@ pub fn settle(queue: Queue, size: u32, f: Frame) -> Settled
     }
 }
 
-pub fn arrived(number: u16, length: u64, time: u64) -> Frame
-    requires { ⌜ length ≤ 65535 ⌝ }
+pub fn arrived(number: u16, length: u16, time: u64) -> Frame
     ensures { λ r. ⌜ r ≡ record { number = number; length = «length»; arrival = time } ⌝ }
 {
     Frame {
         number,
-        length: length as u16,
+        length,
         arrival: time,
     }
 }

@@ -1,11 +1,7 @@
 use native.Mathlib.Omega.{arith}
 use Rattle.port_refusals.proofs.Refused.{no-room, roomy}
-use borrow.Author.Needs.{needs}
 use Rattle.port_refusals.proofs.room_refusal.Statement.{statement}
 use Rattle.port_refusals.proofs.room_refusal.Tie as tie
-
-mul-if1 : tie.Need-mul-if1
-mul-if1 c = search needs
 
 returns : tie.Need-returns
 returns c = no-room (c .before .args .frames) (c .before .args .room) (omega arith)
@@ -14,4 +10,4 @@ returns-2 : tie.Need-returns-2
 returns-2 c = roomy (c .before .args .frames) (c .before .args .room) (omega arith)
 
 pub room-refusal-spec : {M : Type 1} → statement M
-room-refusal-spec = tie.close (tie.spec mul-if1 returns returns-2)
+room-refusal-spec = tie.close (tie.spec returns returns-2)

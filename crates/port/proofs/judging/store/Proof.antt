@@ -26,6 +26,9 @@ mul-arrived c = search needs
 element-copy-out-arrived : tie.Need-element-copy-out-arrived
 element-copy-out-arrived c = at-place (c .before .before)
 
+cast-arrived : tie.Need-cast-arrived
+cast-arrived c = search needs
+
 arrived-requires : tie.Need-arrived-requires
 arrived-requires c κs = search needs
 
@@ -66,6 +69,7 @@ store-spec =
     element-copy-out-link
     mul-arrived
     element-copy-out-arrived
+    cast-arrived
     arrived-requires
     cast-k
     mul-settle

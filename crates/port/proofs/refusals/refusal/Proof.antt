@@ -1,8 +1,7 @@
 use borrow.Author.Tests.{not-true, not-false}
 use Rattle.port_refusals.specs.Reports.{viewReport}
 use Rattle.port.specs.View.{viewPort}
-use Rattle.port.proofs.Whole.{whole}
-use Rattle.port.proofs.Refused.{is-unfit, clocked, few-held, refused, last}
+use Rattle.port.proofs.Refused.{is-unfit, clocked, refused, last}
 use borrow.Author.Needs.{needs}
 use Rattle.port.proofs.refusals.refusal.Statement.{statement}
 use Rattle.port.proofs.refusals.refusal.Tie as tie
@@ -23,8 +22,7 @@ returns-2 c =
     refused (a .p) (c .before .before .before .before .before .fit .ensures) (not-false (c .before .before .before .before .before .fit .result .fits) (c .before .before .before .if1 .left)) (viewReport (a .report)) (a .room) (c .before .refusal .ensures) (c .if2 .taken)
 
 room-refusal-requires : tie.Need-room-refusal-requires
-room-refusal-requires c κs =
-    let s = c .before .before .before .before .before .before .before .before .before in few-held (s .args .p) (c .before .before .before .before .before .fit .ensures) (not-false (c .before .before .before .before .before .fit .result .fits) (c .before .before .before .if1 .left)) (whole (s .args .p) _ (s .good .0) .queues)
+room-refusal-requires c κs = search needs
 
 returns-3 : tie.Need-returns-3
 unfolding viewPort
