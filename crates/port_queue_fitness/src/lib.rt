@@ -8,10 +8,11 @@ use table_lookup::Place;
 use units::MOST_FRAMES;
 ghost use mathlib.Core.Path.{_≡_};
 ghost use mathlib.Core.Bool.{false};
-ghost use Prim.Native.Nat.{_≤_};
+ghost use Prim.Native.Nat.{_≤_, _<_};
 ghost use Rattle.model.specs.Units.{mostFrames};
 ghost use Rattle.model.specs.Table.{tableRefusal};
 ghost use Rattle.table.specs.View.{viewTable};
+ghost use Rattle.table_lookup.specs.Places.{Rising, Found};
 ghost use Rattle.port_queue_fitness.specs.Queues.{loadFits, queuesFitness};
 
 // Whether what was tested fits, and, if so, how many frames are held; else 0.
@@ -30,7 +31,7 @@ pub fn unfit() -> Fitness
 }
 
 // Guesses at the places of the first count numbers, by their last ten bits.
-// A guess may be wrong: `table_lookup::place_near` tests it.
+// A guess may be wrong: `place_near` tests it.
 fn guesses_of(numbers: &[u16; 256], count: u16) -> [u8; 1024]
     requires { ⌜ count ≤ 256 ⌝ }
 {
@@ -42,6 +43,20 @@ fn guesses_of(numbers: &[u16; 256], count: u16) -> [u8; 1024]
         i += 1;
     }
     guesses
+}
+
+// The place of a number, which is often the guess.
+fn place_near(numbers: &[u16; 256], count: u16, number: u16, guess: u8) -> Place
+    requires { ⌜ (0 < count) × (count ≤ 256) × Rising (now numbers) count ⌝ }
+    ensures { λ r. ⌜ Found (now (numbers .entry)) count number r ⌝ }
+{
+    if (guess as u16) < count {
+        let i = guess as usize;
+        if numbers[i] == number {
+            return Place::At(i);
+        }
+    }
+    table_lookup::place_of(numbers, count, u16_as_u64(number))
 }
 
 // Of one queue: its frames, each of which names a link and fits it, and its held sum.
@@ -57,7 +72,7 @@ fn load_fits(t: Table, guesses: &[u8; 1024], q: Queue, priority: u8, clock: u64)
     while i < n {
         let f = q.frames[i];
         let guess = guesses[(f.number % 1024) as usize];
-        let place = table_lookup::place_near(&t.numbers, count, f.number, guess);
+        let place = place_near(&t.numbers, count, f.number, guess);
         let Place::At(k) = place else {
             return false;
         };

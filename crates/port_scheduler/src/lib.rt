@@ -9,7 +9,7 @@ ghost use lib.ListN.{length, take, drop};
 ghost use Rattle.model.specs.Units.{mostFrames};
 ghost use Rattle.model.specs.Machine.{highestWaiting, startIfAny, framesHeld, held as heldBytes};
 ghost use Rattle.port_scheduler.specs.View.{viewQueue, viewQueues, viewMarks, viewSender};
-ghost use Rattle.port_scheduler.specs.Contracts.{Pushed, Ready, advanceFrom, Advanced};
+ghost use Rattle.port_scheduler.specs.Contracts.{Ready, advanceFrom, Advanced};
 ghost use Rattle.port_scheduler.specs.Sending.{Sends, Positive, GoesOn, HeadGone};
 
 pub struct Frame {
@@ -52,18 +52,6 @@ pub fn held(q: Queue) -> u64
         i += 1;
     }
     sum
-}
-
-// The queue with one frame more, the last.
-pub fn pushed(q: Queue, f: Frame) -> Queue
-    requires { ⌜ q .count < mostFrames ⌝ }
-    ensures { λ r. ⌜ Pushed q f r ⌝ }
-{
-    let mut r = q;
-    let n = r.count as usize;
-    r.frames[n] = f;
-    r.count = r.count + 1;
-    r
 }
 
 // The frames that all queues hold.

@@ -6,6 +6,7 @@ ghost use mathlib.Core.Path.{_≡_};
 ghost use Prim.Native.Nat.{_+_, _<_, _^_, max};
 ghost use lib.Dec.{leb};
 ghost use Rattle.model.specs.Units.{mostFrames};
+ghost use Rattle.port_scheduler.specs.Contracts.{Pushed};
 ghost use Rattle.port_storing.specs.Storing.{Stored, Roomy, Settles};
 
 // The verdict of a frame that passed the police check, and the queue of its link's priority after it.
@@ -33,12 +34,24 @@ fn has_room(held: u64, more: u64, size: u64) -> bool
     held <= size - more
 }
 
+// The queue with one frame more, the last.
+fn pushed(q: Queue, f: Frame) -> Queue
+    requires { ⌜ q .count < mostFrames ⌝ }
+    ensures { λ r. ⌜ Pushed q f r ⌝ }
+{
+    let mut r = q;
+    let n = r.count as usize;
+    r.frames[n] = f;
+    r.count = r.count + 1;
+    r
+}
+
 // The queue with the frame last; the mark rises to the bytes that it then holds if they are more.
 fn stored(q: Queue, f: Frame, bytes: u64) -> Queue
     requires { ⌜ (q .count < mostFrames) × (bytes < 2 ^ 32) ⌝ }
     ensures { λ r. ⌜ Stored q f bytes r ⌝ }
 {
-    let mut r = port_scheduler::pushed(q, f);
+    let mut r = pushed(q, f);
     let high = bytes as u32;
     r.mark = larger(r.mark, high);
     r

@@ -27,17 +27,3 @@ pub fn place_of(numbers: &[u16; 256], count: u16, number: u64) -> Place
     }
     Place::Nowhere
 }
-
-// The place of a number, which is often the guess.
-pub fn place_near(numbers: &[u16; 256], count: u16, number: u16, guess: u8) -> Place
-    requires { ⌜ (0 < count) × (count ≤ 256) × Rising (now numbers) count ⌝ }
-    ensures { λ r. ⌜ Found (now (numbers .entry)) count number r ⌝ }
-{
-    if (guess as u16) < count {
-        let i = guess as usize;
-        if numbers[i] == number {
-            return Place::At(i);
-        }
-    }
-    place_of(numbers, count, u16_as_u64(number))
-}

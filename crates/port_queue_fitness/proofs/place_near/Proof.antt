@@ -1,8 +1,8 @@
 use native.Mathlib.Omega.{arith}
 use Rattle.table_lookup.proofs.Halving.{found-guess}
 use borrow.Author.Needs.{needs}
-use Rattle.table_lookup.proofs.place_near.Statement.{statement}
-use Rattle.table_lookup.proofs.place_near.Tie as tie
+use Rattle.port_queue_fitness.proofs.place_near.Statement.{statement}
+use Rattle.port_queue_fitness.proofs.place_near.Tie as tie
 
 mul-if2 : tie.Need-mul-if2
 mul-if2 c = search needs

@@ -1,10 +1,10 @@
 -- The frame stands at the count, and the count is one more.
 use native.Mathlib.Omega.{arith}
 use Rattle.port_scheduler.proofs.Shape.{queue-whole}
 use Rattle.port_scheduler.proofs.Shown.{pushed-shown}
 use borrow.Author.Needs.{needs}
-use Rattle.port_scheduler.proofs.pushed.Statement.{statement}
-use Rattle.port_scheduler.proofs.pushed.Tie as tie
+use Rattle.port_storing.proofs.pushed.Statement.{statement}
+use Rattle.port_storing.proofs.pushed.Tie as tie
 
 cast-n : tie.Need-cast-n
 cast-n c = search needs
