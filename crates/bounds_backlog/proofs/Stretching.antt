@@ -18,7 +18,7 @@ use Rattle.bounds_arrivals.proofs.Loading.{flow-is, tops-few}
 use Rattle.bounds_arrivals.proofs.Views.{own-within-up, own-arrivals, up-arrivals}
 use Rattle.bounds_backlog.specs.declared.Stretch.{Stretch}
 use Rattle.bounds_backlog.specs.Peaks.{Bends}
-use Rattle.bounds_backlog.specs.Stretches.{Steady, Given, Sized, Stretched, backlogBy, backlogIn}
+use Rattle.bounds_backlog.specs.Stretches.{Steady, Given, SumsFit, Stretched, backlogBy, backlogIn}
 use Rattle.bounds_backlog.proofs.Bending.{drained-bends}
 use Rattle.bounds_backlog.proofs.Steadiness.{steady-less, load-stays, flow-bends}
 
@@ -64,7 +64,7 @@ module _ (t : TableRecord) (pass : tableRefusal (viewTable t) ≡ 0) (p b m last
   most : w ≤ 65_536
   most = omega (arith, g .is-hold .most-is)
 
-  sized : Sized stretch
+  sized : SumsFit stretch
   unfolding stretch
   sized = record {
     lines-most = omega (arith, counts-pass t pass .lines-most);

@@ -45,7 +45,7 @@ pub record Given (t : Table) (p b m last : ℕ) : Type 0 where
   pub is-hold : IsHold t p (last + 1)
 
 -- sums over its loads fit
-pub record Sized (s : Stretch) : Type 0 where
+pub record SumsFit (s : Stretch) : Type 0 where
   pub lines-most : s .lines ≤ 24
   pub some-link : 1 ≤ s .longest
   pub longest-most : s .longest ≤ 1_538
@@ -53,7 +53,7 @@ pub record Sized (s : Stretch) : Type 0 where
   pub up-most : (k : ℕ) → k < 24 → getD (s .up .tops) k 0 ≤ 1_538
 
 pub record Steep (s : Stretch) : Type 0 where
-  pub sized : Sized s
+  pub sized : SumsFit s
   pub order : s .start ≤ s .last
   pub last-most : s .last ≤ 65_535
   pub bends : Bends (backlogIn s) (s .start) (s .last)

@@ -11,7 +11,7 @@ ghost use Rattle.model.specs.Bounds.{backlog};
 ghost use Rattle.table.specs.View.{viewLinks, viewTable};
 ghost use Rattle.bounds_arrivals.specs.Loads.{between};
 ghost use Rattle.bounds_backlog.specs.Peaks.{Crest, Highest};
-ghost use Rattle.bounds_backlog.specs.Stretches.{LinkSteady, Steady, Given, Sized, Steep, Stretched, Improved, Raised, backlogBy, backlogIn};
+ghost use Rattle.bounds_backlog.specs.Stretches.{LinkSteady, Steady, Given, SumsFit, Steep, Stretched, Improved, Raised, backlogBy, backlogIn};
 
 // The windows from start to last, with the loads that all of them have in common.
 pub struct Stretch {
@@ -80,7 +80,7 @@ fn stretch_at(t: Table, p: u8, blocking: u64, longest: u64, w: u64, last: u64) -
 
 // The smaller of A_p(w) and A_up(w) - max(0, sent - b) + M - 1.
 fn backlog_by(s: Stretch, w: u64, sent: u64) -> u64
-    requires { ⌜ Sized s × (w ≤ 65536) ⌝ }
+    requires { ⌜ SumsFit s × (w ≤ 65536) ⌝ }
     ensures { λ r. ⌜ r ≡ backlogBy s w sent ⌝ }
 {
     let own = s.own;

@@ -10,21 +10,21 @@ use Rattle.model.specs.Run.{History, DemandBy, Demand3}
 use Rattle.model.proofs.Lists.{getD-eight}
 
 -- what a sizing that is not refused has
-pub record Sized (t : Table) (s : Sizing) : Type 0 where
+pub record Answers (t : Table) (s : Sizing) : Type 0 where
   pub passes : boundsRefusal t ≡ 0
   pub bounds : (p : ℕ) → p < 8 → getD (s .bounds) p 0 ≡ bound t p
   pub holds : (p : ℕ) → p < 8 → getD (s .holds) p 0 ≡ hold t p
 
-pub sized : (t : Table) → sizing t .refused ≡ 0 → Sized t (sizing t)
+pub sized : (t : Table) → sizing t .refused ≡ 0 → Answers t (sizing t)
 unfolding sizing sizedOr
 sized t e = go (boundsRefusal t) refl e
   where
-    go : (n : ℕ) → boundsRefusal t ≡ n → sizedOr n t .refused ≡ 0 → Sized t (sizedOr n t)
+    go : (n : ℕ) → boundsRefusal t ≡ n → sizedOr n t .refused ≡ 0 → Answers t (sizedOr n t)
     go zero q x = record { passes = q; bounds = λ p l. getD-eight (bound t) p 0 l; holds = λ p l. getD-eight (hold t) p 0 l }
     go (suc n) q x = absurd (omega arith)
 
 -- demand 3 with numbers that are the bounds and holds
-pub demand-by : {t : Table} {s : Sizing} {h : History} → Sized t s → Demand3 t h → DemandBy (λ p. getD (s .bounds) p 0) (λ p. getD (s .holds) p 0) t h
+pub demand-by : {t : Table} {s : Sizing} {h : History} → Answers t s → Demand3 t h → DemandBy (λ p. getD (s .bounds) p 0) (λ p. getD (s .holds) p 0) t h
 demand-by k d =
     record {
       queue = d .queue;

@@ -5,9 +5,9 @@ use Rattle.table.specs.View.{viewTable}
 use Rattle.bounds.specs.declared.Bounds.{Bounds as BoundsRecord}
 use Rattle.port.proofs.Theorems.{demand-three-of-calls}
 use Rattle.guarantee.specs.Guarantee.{SizingHolds}
-use Rattle.guarantee.proofs.Answered.{Sized, sized, demand-by}
+use Rattle.guarantee.proofs.Answered.{Answers, sized, demand-by}
 
 pub sizing-holds : SizingHolds
 sizing-holds t b e z p log c =
-    let k : Sized (viewTable t) (sizing (viewTable t)) = sized (viewTable t) (sym (ap (λ (r : BoundsRecord). r .refused) e) ∙ z) in
+    let k : Answers (viewTable t) (sizing (viewTable t)) = sized (viewTable t) (sym (ap (λ (r : BoundsRecord). r .refused) e) ∙ z) in
     rw e (demand-by k (demand-three-of-calls t (k .passes) p log c))

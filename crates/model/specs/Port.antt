@@ -21,7 +21,7 @@ pub record Gate : Type 0 where
 -- The state of a port, its table beside it
 pub record Port : Type 0 where
   pub scheduler : Scheduler
-  -- "for each priority a queue .. and its mark": the most that its buffer has held
+  -- "for each priority a queue .. and its mark": the paper's word for the high-water mark of its buffer
   pub marks : List ℕ
   pub gate : Gate
 

@@ -39,6 +39,6 @@ restingPort t accounts =
 unfoldable pub freshPort : TableRecord → PortRecord
 freshPort t = restingPort t (map fullAccount (viewLinks t))
 
--- "no fresh port": its table meets 3, so it is refused with 10
+-- "no .. fresh port": its table meets 3, so it is refused with 10
 unfoldable pub blankPort : PortRecord
 blankPort = restingPort (recordTable blankTable) []
