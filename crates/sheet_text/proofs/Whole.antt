@@ -15,8 +15,9 @@ use Rattle.table_file.specs.declared.Reading.{Reading as ReadingRecord}
 use Rattle.table.specs.View.{viewTable, recordTable}
 use Rattle.table_file.specs.Answers.{recordReading}
 use Rattle.table_file.proofs.Back.{read-shown}
-use Rattle.sheet_text.specs.declared.Text.{Text}
-use Rattle.sheet_text.specs.Fixed.{recordText, linesTo, tableLines, refusalLine}
+use Rattle.sheet_numerals.specs.declared.Text.{Text}
+use Rattle.sheet_numerals.specs.Fixed.{recordText}
+use Rattle.sheet_lines.specs.Lines.{linesTo, tableLines, refusalLine}
 
 -- the bytes that are read
 pub cut : (input : List ℕ) → take (min (length input) 4_653) input ≡ take 4_653 input

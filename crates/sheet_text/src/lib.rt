@@ -1,25 +1,10 @@
 // The sheet of a table file, as text in a fixed array.
-mod lines;
-mod numerals;
-
+use sheet_numerals::Text;
 ghost use mathlib.Core.Path.{_≡_};
 ghost use Prim.Native.Nat.{min};
 ghost use Rattle.model.specs.Basics.{firstRefusal};
 ghost use Rattle.model.specs.Sheet.{sheet};
-ghost use Rattle.sheet_text.specs.Fixed.{recordText};
-
-// The most bytes of a line: 1 digit for the priority, 10 for each of three 32-bit numbers, 11 for spare, 13 for fill,
-// 5 blanks and the end.
-const LINE: usize = 61;
-
-// The header, and a line for each priority.
-pub const ROOM: usize = 36 + 8 * LINE;
-
-// Bytes behind len are 0.
-pub struct Text {
-    pub bytes: [u8; ROOM],
-    pub len: usize,
-}
+ghost use Rattle.sheet_numerals.specs.Fixed.{recordText};
 
 // The largest file has 4,652 bytes. One more shows that there are bytes left.
 fn used(len: usize) -> usize
@@ -44,10 +29,10 @@ pub fn text_of(input: &[u8]) -> Text
     let answer = bounds::bounds_of(t);
     let refused = first_refusal(reading.refused, answer.refused);
     if refused != 0 {
-        return lines::refusal_line(refused);
+        return sheet_lines::refusal_line(refused);
     }
     let bounds = answer.bounds;
     let holds = answer.holds;
     let sizes = t.sizes;
-    lines::table_lines(bounds, holds, sizes)
+    sheet_lines::table_lines(bounds, holds, sizes)
 }

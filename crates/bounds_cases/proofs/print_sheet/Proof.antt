@@ -1,7 +1,7 @@
 use native.Mathlib.Omega.{arith}
 use lib.ListN.{length-take}
 use borrow.Author.Needs.{needs}
-use Rattle.sheet_text.proofs.Appended.{text-within}
+use Rattle.sheet_numerals.proofs.Appended.{text-within}
 use Rattle.bounds_cases.proofs.print_sheet.Statement.{statement}
 use Rattle.bounds_cases.proofs.print_sheet.Tie as tie
 

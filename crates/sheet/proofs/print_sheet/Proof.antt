@@ -1,6 +1,6 @@
 use native.Mathlib.Omega.{arith}
 use lib.ListN.{length-take}
-use Rattle.sheet_text.proofs.Appended.{text-within}
+use Rattle.sheet_numerals.proofs.Appended.{text-within}
 use borrow.Author.Needs.{needs}
 use Rattle.sheet.proofs.print_sheet.Statement.{statement}
 use Rattle.sheet.proofs.print_sheet.Tie as tie

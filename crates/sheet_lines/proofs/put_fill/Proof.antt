@@ -1,0 +1,37 @@
+use native.Mathlib.Omega.{arith}
+use Rattle.model.specs.Sheet.{text}
+use Rattle.sheet_numerals.proofs.Appended.{same-put}
+use Rattle.sheet_lines.proofs.Columns.{fill-none, thirteen-digits}
+use borrow.Author.Needs.{needs}
+use Rattle.sheet_lines.proofs.put_fill.Statement.{statement}
+use Rattle.sheet_lines.proofs.put_fill.Tie as tie
+
+slice-aggregate-put : tie.Need-slice-aggregate-put
+slice-aggregate-put c = search needs
+
+put-requires : tie.Need-put-requires
+put-requires c κs = search needs
+
+returns : tie.Need-returns
+unfolding text
+returns c = same-put (c .put .ensures) (fill-none (c .before .before .before .args .bound) (c .before .before .before .args .size) (c .before .before .if1 .taken))
+
+per-mille-requires : tie.Need-per-mille-requires
+per-mille-requires c κs = search needs
+
+put-numeral-requires : tie.Need-put-numeral-requires
+put-numeral-requires c κs = omega (arith, thirteen-digits (c .per-mille .result) (c .per-mille .ensures .1))
+
+returns-2 : tie.Need-returns-2
+returns-2 c = same-put (c .put-numeral .ensures) (c .before .per-mille .ensures .0)
+
+pub put-fill-spec : {M : Type 1} → statement M
+put-fill-spec =
+    tie.close
+    (tie.spec
+    slice-aggregate-put
+    put-requires
+    returns
+    per-mille-requires
+    put-numeral-requires
+    returns-2)

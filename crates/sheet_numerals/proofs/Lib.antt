@@ -1,0 +1,4 @@
+pub mod Shape
+pub mod Appended
+pub mod Digits
+pub mod Signed
