@@ -56,28 +56,36 @@ fn hold(table: &Table, p: u8) -> Option<u64> {
     HOLDS.into_iter().find(|w| b + up.arrivals(w - 1) <= *w)
 }
 
-/// "bound_p is the greatest, over w from 0 to hold_p − 1, of the smaller of A_p(w) and
-/// A_up(w) − max(0, w − b) + M − 1. With no link of priority p it is 0."
-fn bound(table: &Table, p: u8, hold: u64) -> u64 {
+/// For each w from 0 to hold_p − 1, "the smaller of A_p(w) and A_up(w) − max(0, w − b) + M − 1"; none
+/// for a priority without links.
+fn amounts(table: &Table, p: u8, hold: u64) -> Vec<u64> {
     let own = Set::new(table, |v| v.priority == p);
     let up = Set::new(table, |v| v.priority <= p);
     let b = blocking(table, p);
     let m = greatest(table, |v| v.priority == p);
     if m == 0 {
-        return 0;
+        return Vec::new();
     }
-    let mut found = 0;
-    for w in 0..hold {
-        let left = up.arrivals(w) - w.saturating_sub(b) + m - 1;
-        found = found.max(own.arrivals(w).min(left));
-    }
-    found
+    (0..hold).map(|w| own.arrivals(w).min(up.arrivals(w) - w.saturating_sub(b) + m - 1)).collect()
+}
+
+/// "bound_p is the greatest, over w from 0 to hold_p − 1 .. With no link of priority p it is 0."
+fn bound(amounts: &[u64]) -> u64 {
+    amounts.iter().copied().max().unwrap_or(0)
+}
+
+/// "the smallest w at which the greatest amount occurs, and 0 for a priority without links": each w is
+/// tried.
+fn window(amounts: &[u64]) -> u64 {
+    let greatest = bound(amounts);
+    amounts.iter().position(|amount| *amount == greatest).unwrap_or(0) as u64
 }
 
 #[derive(Clone, Copy, Debug, PartialEq, Eq)]
 pub struct Bounds {
     pub bounds: [u64; 8],
     pub holds: [u64; 8],
+    pub windows: [u64; 8],
 }
 
 /// "bounds: 3 to 6, then no hold: 8." "If any of the eight has none, the table has no bounds (8)."
@@ -86,12 +94,14 @@ pub fn bounds(table: &Table) -> Result<Bounds, u32> {
     if refusal != 0 {
         return Err(refusal);
     }
-    let mut found = Bounds { bounds: [0; 8], holds: [0; 8] };
+    let mut found = Bounds { bounds: [0; 8], holds: [0; 8], windows: [0; 8] };
     for p in 0..8 {
         found.holds[p] = hold(table, p as u8).ok_or(8u32)?;
     }
     for p in 0..8 {
-        found.bounds[p] = bound(table, p as u8, found.holds[p]);
+        let amounts = amounts(table, p as u8, found.holds[p]);
+        found.bounds[p] = bound(&amounts);
+        found.windows[p] = window(&amounts);
     }
     Ok(found)
 }
@@ -102,9 +112,10 @@ mod tests {
     use crate::cases::make::table_of;
     use crate::examples::{link, table_e};
 
-    fn both(lines: u16, links: &[Link], p: usize) -> (u64, u64) {
+    /// Bound, hold and window.
+    fn three(lines: u16, links: &[Link], p: usize) -> (u64, u64, u64) {
         let found = bounds(&table_of(lines, links, [0; 8])).expect("a table with bounds");
-        (found.bounds[p], found.holds[p])
+        (found.bounds[p], found.holds[p], found.windows[p])
     }
 
     #[test]
@@ -112,14 +123,15 @@ mod tests {
         let found = bounds(&table_e()).expect("a table with bounds");
         assert_eq!(found.bounds, [500, 1_000, 0, 0, 0, 0, 0, 0]);
         assert_eq!(found.holds, [1_499, 1_500, 1_500, 1_500, 1_500, 1_500, 1_500, 1_500]);
+        assert_eq!(found.windows, [0; 8]);
     }
 
     #[test]
     fn g_and_h() {
         let on = |line| link(u16::from(line), line, 0, 200);
         let one_line = [0, 1, 2].map(|number| Link { line: 0, ..on(number) });
-        assert_eq!(both(1, &one_line, 0), (399, 600));
-        assert_eq!(both(3, &[on(0), on(1), on(2)], 0).0, 600);
+        assert_eq!(three(1, &one_line, 0), (399, 600, 199));
+        assert_eq!(three(3, &[on(0), on(1), on(2)], 0), (600, 600, 0));
     }
 
     /// 42 links of 1,538 and one of another length, code 7, on one line.
@@ -139,14 +151,39 @@ mod tests {
     #[test]
     fn k() {
         let late = Link { jitter: 12_400, ..link(1, 0, 0, 100) };
-        assert_eq!(both(1, &[late], 0), (100, 100));
+        assert_eq!(three(1, &[late], 0), (100, 100, 0));
     }
 
     #[test]
     fn l() {
         let mut links: Vec<Link> = (1..9).map(|number| link(number, 0, 1, 200)).collect();
         links.insert(0, link(0, 0, 0, 1_000));
-        assert_eq!(both(1, &links, 1), (1_199, 2_600));
+        assert_eq!(three(1, &links, 1), (1_199, 2_600, 999));
+    }
+
+    #[test]
+    fn windows() {
+        let k = [link(1, 0, 0, 200), link(2, 0, 0, 300), link(3, 1, 1, 1_000)];
+        assert_eq!(three(2, &k, 0), (500, 1_499, 200));
+        let late = |jitter| [Link { jitter, ..link(1, 0, 0, 500) }];
+        assert_eq!(three(1, &late(12_000), 0), (500, 500, 0));
+        assert_eq!(three(1, &late(12_001), 0), (999, 1_000, 499));
+        let two_lines = [1, 2, 3, 4, 5, 6].map(|number| link(number, u8::from(number > 3), 0, 200));
+        assert_eq!(three(2, &two_lines, 0), (999, 1_200, 400));
+        let nt = [link(1, 0, 0, 200), link(2, 0, 0, 200), link(3, 0, 0, 200), link(4, 1, 3, 100)];
+        let found = bounds(&table_of(2, &nt, [0; 8])).expect("a table with bounds");
+        assert_eq!(found.bounds, [498, 0, 0, 100, 0, 0, 0, 0]);
+        assert_eq!(found.holds, [699, 699, 699, 700, 700, 700, 700, 700]);
+        assert_eq!(found.windows, [298, 0, 0, 0, 0, 0, 0, 0]);
+    }
+
+    /// The search itself: the first of several greatest, the last place, a single place, none.
+    #[test]
+    fn the_first_of_the_greatest() {
+        assert_eq!(window(&[3, 5, 4, 5]), 1);
+        assert_eq!(window(&[1, 2, 3]), 2);
+        assert_eq!(window(&[7]), 0);
+        assert_eq!(window(&[]), 0);
     }
 
     #[test]

@@ -16,7 +16,7 @@ pub fn sheet(input: &[u8]) -> String {
 fn lines(file: &[u8]) -> Result<String, u32> {
     let table = read(file)?;
     let found = bounds(&table)?;
-    let mut text = String::from("priority bound hold size spare fill\n");
+    let mut text = String::from("priority bound hold window size spare fill\n");
     for p in 0..8 {
         text += &line(&table, &found, p);
     }
@@ -24,14 +24,16 @@ fn lines(file: &[u8]) -> Result<String, u32> {
 }
 
 /// "priority, bound, hold, size, spare = size − bound, which may be below zero, and fill =
-/// 1000 × bound / size rounded up; where size is 0 fill is `-`."
+/// 1000 × bound / size rounded up; where size is 0 fill is `-`"; "a column named window between hold and
+/// size".
 fn line(table: &Table, found: &Bounds, p: usize) -> String {
     let bound = found.bounds[p];
     let hold = found.holds[p];
+    let window = found.windows[p];
     let size = u64::from(table.sizes[p]);
     let spare = size as i64 - bound as i64;
     let fill = if size == 0 { "-".to_string() } else { (1_000 * bound).div_ceil(size).to_string() };
-    format!("{p} {bound} {hold} {size} {spare} {fill}\n")
+    format!("{p} {bound} {hold} {window} {size} {spare} {fill}\n")
 }
 
 #[cfg(test)]
@@ -43,15 +45,15 @@ mod tests {
     #[test]
     fn the_sheet_of_table_e() {
         let expected = "\
-priority bound hold size spare fill
-0 500 1499 2000 1500 250
-1 1000 1500 2000 1000 500
-2 0 1500 0 0 -
-3 0 1500 0 0 -
-4 0 1500 0 0 -
-5 0 1500 0 0 -
-6 0 1500 0 0 -
-7 0 1500 0 0 -
+priority bound hold window size spare fill
+0 500 1499 0 2000 1500 250
+1 1000 1500 0 2000 1000 500
+2 0 1500 0 0 0 -
+3 0 1500 0 0 0 -
+4 0 1500 0 0 0 -
+5 0 1500 0 0 0 -
+6 0 1500 0 0 0 -
+7 0 1500 0 0 0 -
 ";
         assert_eq!(sheet(&bytes_of(&table_e())), expected);
     }
@@ -61,9 +63,9 @@ priority bound hold size spare fill
         let mut table = table_e();
         table.sizes = [499, 1_001, 0, 7, 0, 0, 0, 0];
         let text = sheet(&bytes_of(&table));
-        assert!(text.contains("\n0 500 1499 499 -1 1003\n"));
-        assert!(text.contains("\n1 1000 1500 1001 1 1000\n"));
-        assert!(text.contains("\n3 0 1500 7 7 0\n"));
+        assert!(text.contains("\n0 500 1499 0 499 -1 1003\n"));
+        assert!(text.contains("\n1 1000 1500 0 1001 1 1000\n"));
+        assert!(text.contains("\n3 0 1500 0 7 7 0\n"));
     }
 
     #[test]

@@ -8,6 +8,6 @@ unfoldable pub sum : List ℕ → ℕ
 sum [] = 0
 sum (n ∷ l) = n + sum l
 
--- the blank table of a refused file is refused too, and has bounds and holds of 0
+-- the blank table of a refused file is refused too, and has bounds, holds and windows of 0
 unfoldable pub sizingSum : Table → ℕ
-sizingSum t = sum (sizing t .bounds) + sum (sizing t .holds)
+sizingSum t = sum (sizing t .bounds) + sum (sizing t .holds) + sum (sizing t .windows)

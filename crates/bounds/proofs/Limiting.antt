@@ -8,7 +8,7 @@ use lib.ListN.{length}
 use Rattle.model.specs.Basics.{provided}
 use Rattle.model.specs.Link.{VirtualLink, linkAt, anyOf, greatestOver}
 use Rattle.model.specs.Table.{Table, tableRefusal}
-use Rattle.model.specs.Bounds.{ofPriority, ownArrivals, upArrivals, blocking, longest, backlog, boundWithin, orZero}
+use Rattle.model.specs.Bounds.{ofPriority, ownArrivals, upArrivals, blocking, longest, backlog, boundWithin, orZero, windowWithin}
 use Rattle.model.specs.Promises.{IsHold}
 use Rattle.model.proofs.Curves.{greatest-none}
 use Rattle.model.proofs.Holds.{up-grows}
@@ -19,7 +19,7 @@ use Rattle.table.proofs.PassingRecord.{link-fits}
 use Rattle.bounds_backlog.specs.Peaks.{Highest}
 use Rattle.bounds_backlog.specs.Stretches.{Given}
 use Rattle.bounds_backlog.proofs.Highest.{highest-is, highest-first}
-use Rattle.bounds.specs.Limits.{Climbed, windowWithin, Limited}
+use Rattle.bounds.specs.Limits.{Climbed, Limited}
 
 -- ---- a set has a link exactly if its greatest length is not 0
 any-longest : (s : VirtualLink → Bool) (links : List VirtualLink) → ((i : ℕ) → i < length links → 84 ≤ linkAt links i .greatest) → anyOf s links ≡ true

@@ -3,4 +3,4 @@ use Rattle.model.specs.Bounds.{Sizing}
 use Rattle.bounds.specs.declared.Bounds.{Bounds}
 
 abbrev pub recordBounds : Sizing → Bounds
-recordBounds s = record { refused = s .refused; bounds = s .bounds; holds = s .holds }
+recordBounds s = record { refused = s .refused; bounds = s .bounds; holds = s .holds; windows = s .windows }

@@ -1,13 +1,9 @@
 -- Hold, bound and window of one priority.
 use mathlib.Core.Path.{_≡_}
-use mathlib.Core.Bool.{cond}
 use mathlib.Core.Option.{Option, none, some}
 use Prim.Native.Nat.{ℕ, zero, suc, _<_}
-use lib.Dec.{eqb}
-use Rattle.model.specs.Basics.{firstFrom, greatestTo}
-use Rattle.model.specs.Link.{anyOf}
 use Rattle.model.specs.Table.{Table}
-use Rattle.model.specs.Bounds.{ofPriority, holdOf, backlog, boundWithin, orZero}
+use Rattle.model.specs.Bounds.{holdOf, boundWithin, windowWithin}
 use Rattle.model.specs.Promises.{IsHold}
 use Rattle.bounds.specs.declared.limits.Limits.{Limits}
 
@@ -20,11 +16,6 @@ found (suc n) = some (suc n)
 pub record Climbed (t : Table) (p r : ℕ) : Type 0 where
   pub is : holdOf t p ≡ found r
   pub smallest : 0 < r → IsHold t p r
-
--- the smallest w from 0 to hold − 1 at which the bound occurs; with no link of the priority it is 0
-unfoldable pub windowWithin : Table → ℕ → ℕ → ℕ
-windowWithin t p hold =
-    cond (anyOf (ofPriority p) (t .links)) (orZero (firstFrom (λ w. eqb (backlog t p w) (greatestTo (backlog t p) hold)) hold 0)) 0
 
 pub record Limited (t : Table) (p : ℕ) (r : Limits) : Type 0 where
   pub hold : holdOf t p ≡ found (r .hold)

@@ -1,4 +1,4 @@
-// Holds and bounds of a table.
+// Bounds, holds and windows of a table.
 mod busy;
 mod limits;
 
@@ -14,19 +14,21 @@ pub struct Bounds {
     pub refused: u32,
     pub bounds: [u32; 8],
     pub holds: [u32; 8],
+    pub windows: [u32; 8],
 }
 
 fn refused(number: u32) -> Bounds
-    ensures { λ r. ⌜ r ≡ record { refused = number; bounds = replicate 8 0; holds = replicate 8 0 } ⌝ }
+    ensures { λ r. ⌜ r ≡ record { refused = number; bounds = replicate 8 0; holds = replicate 8 0; windows = replicate 8 0 } ⌝ }
 {
     Bounds {
         refused: number,
         bounds: [0u32; 8],
         holds: [0u32; 8],
+        windows: [0u32; 8],
     }
 }
 
-// The bounds and holds of a table, or the refusal: 3 to 6, or 8 where a priority has no hold.
+// The bounds, holds and windows of a table, or the refusal: 3 to 6, or 8 where a priority has no hold.
 pub fn bounds_of(t: Table) -> Bounds
     ensures { λ r. ⌜ r ≡ recordBounds (sizing (viewTable t)) ⌝ }
 {
@@ -36,6 +38,7 @@ pub fn bounds_of(t: Table) -> Bounds
     }
     let mut bounds = [0u32; 8];
     let mut holds = [0u32; 8];
+    let mut windows = [0u32; 8];
     let mut p: usize = 0;
     while p < 8 {
         let l = limits::limits_of(t, p as u8);
@@ -44,11 +47,13 @@ pub fn bounds_of(t: Table) -> Bounds
         }
         bounds[p] = l.bound;
         holds[p] = l.hold;
+        windows[p] = l.window;
         p += 1;
     }
     Bounds {
         refused: 0,
         bounds,
         holds,
+        windows,
     }
 }

@@ -1,4 +1,4 @@
-// Hold and bound of one priority, with the first window at which the bound occurs.
+// Hold, bound and window of one priority.
 use crate::busy;
 use table::Table;
 ghost use mathlib.Core.Path.{_≡_};

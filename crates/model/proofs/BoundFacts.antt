@@ -1,15 +1,59 @@
--- Of a table that has bounds: the bound is attained and is the greatest, and the difference in it is never truncated.
-use mathlib.Core.Path.{_≡_}
-use mathlib.Core.Bool.{true, false}
-use Prim.Native.Nat.{ℕ, _-_, _≤_, _<_}
+-- Of a table that has bounds: the bound is the greatest amount and is first attained at the window, and the difference in it is never
+-- truncated.
+use mathlib.Core.Path.{_≡_, refl, sym, _∙_}
+use mathlib.Core.Bool.{Bool, true, false}
+use mathlib.Core.Option.{Option, none, some}
+use Prim.Native.Nat.{ℕ, zero, _+_, _-_, _≤_, _<_, min}
 use native.Mathlib.Decide.{decLe}
 use native.Mathlib.Omega.{arith}
+use lib.Dec.{eqb}
+use borrow.Author.Tests.{eqb-true, eq-eqb, eqb-false}
+use Rattle.model.specs.Basics.{greatestTo, firstFrom}
+use Rattle.model.specs.Units.{occupied}
 use Rattle.model.specs.Link.{anyOf}
 use Rattle.model.specs.Table.{Table}
-use Rattle.model.specs.Bounds.{ofPriority, upArrivals, blocking, backlog, boundWithin, hold, bound}
+use Rattle.model.specs.Bounds.{ofPriority, ownArrivals, upArrivals, blocking, backlog, boundWithin, orZero, windowWithin, hold, bound, window}
 use Rattle.model.specs.Promises.{IsHold, BoundIsGreatest}
-use Rattle.model.proofs.Search.{greatestTo-ge, Attained, greatestTo-attained}
+use Rattle.model.proofs.Search.{IsFirst, found-first, found-none, greatestTo-ge, Attained, greatestTo-attained}
+use Rattle.model.proofs.Curves.{curve-none}
 use Rattle.model.proofs.Holds.{up-grows, hold-is, has-bounds}
+
+-- ---- the greatest of g 0, .., g (n − 1) is m, first at w
+record FirstGreatest (g : ℕ → ℕ) (n m w : ℕ) : Type 0 where
+  greatest : (k : ℕ) → k < n → g k ≤ m
+  within : w < n
+  attained : g w ≡ m
+  earlier : (k : ℕ) → k < w → g k < m
+
+-- the search for it finds it
+first-greatest : (g : ℕ → ℕ) (n : ℕ) → 0 < n → FirstGreatest g n (greatestTo g n) (orZero (firstFrom (λ w. eqb (g w) (greatestTo g n)) n 0))
+unfolding orZero
+first-greatest g n l = go (firstFrom test n 0) refl
+  where
+    test : ℕ → Bool
+    test = λ w. eqb (g w) (greatestTo g n)
+
+    a : Attained g n
+    a = greatestTo-attained g n l
+
+    go : (o : Option ℕ) → firstFrom test n 0 ≡ o → FirstGreatest g n (greatestTo g n) (orZero o)
+    go none q = absurd (let z : _≡_ {A = ℕ} 0 1 = let y : true ≡ false = sym (eq-eqb (g (a .at)) (greatestTo g n) (a .at-is)) ∙ found-none test n 0 q (a .at) (omega arith) (omega (arith, a .at-lt)) in cc in omega arith)
+    go (some w) q =
+        let f : IsFirst test n 0 w = found-first test n 0 w q in
+        record {
+          greatest = greatestTo-ge g n;
+          within = omega (arith, f .below);
+          attained = eqb-true (g w) (greatestTo g n) (f .holds);
+          earlier = λ k x. let d = eqb-false (g k) (greatestTo g n) (f .before k (omega arith) x) in omega (arith, greatestTo-ge g n k (omega (arith, f .below)));
+        }
+
+-- of zeros
+first-zero : (g : ℕ → ℕ) (n : ℕ) → 0 < n → ((k : ℕ) → g k ≡ 0) → FirstGreatest g n 0 0
+first-zero g n l h = record { greatest = λ k x. omega (arith, h k); within = l; attained = h 0; earlier = λ k x. absurd (omega arith) }
+
+pub unused : (t : Table) (p : ℕ) → anyOf (ofPriority p) (t .links) ≡ false → (bound t p ≡ 0) × (window t p ≡ 0)
+unfolding bound boundWithin window windowWithin
+unused t p e = (rw e, rw e)
 
 module _ (t : Table) (p : ℕ) (is-hold : IsHold t p (hold t p)) where
   untruncated : (w : ℕ) → w < hold t p → w - blocking t p ≤ upArrivals t p w
@@ -22,26 +66,29 @@ module _ (t : Table) (p : ℕ) (is-hold : IsHold t p (hold t p)) where
   small : (w : ℕ) → w < hold t p → upArrivals t p w ≤ 65_536
   small w l = omega (arith, is-hold .holds, is-hold .most-is, up-grows t p w (hold t p - 1) (omega arith))
 
-  attained : anyOf (ofPriority p) (t .links) ≡ true → (w : ℕ) × (w < hold t p) × (backlog t p w ≡ bound t p)
-  unfolding bound boundWithin
-  attained e = let a : Attained (backlog t p) (hold t p) = greatestTo-attained (backlog t p) (hold t p) (omega (arith, is-hold .least-is)) in (a .at, a .at-lt, rw e (a .at-is))
+  idle : anyOf (ofPriority p) (t .links) ≡ false → (w : ℕ) → backlog t p w ≡ 0
+  unfolding backlog ownArrivals
+  idle e w = omega (arith, curve-none occupied (ofPriority p) (t .lines) (t .links) w e)
 
-  greatest : anyOf (ofPriority p) (t .links) ≡ true → (w : ℕ) → w < hold t p → backlog t p w ≤ bound t p
-  unfolding bound boundWithin
-  greatest e w l = rw e (greatestTo-ge (backlog t p) (hold t p) w l)
-
-  unused : anyOf (ofPriority p) (t .links) ≡ false → bound t p ≡ 0
-  unfolding bound boundWithin
-  unused e = rw e
+  highest : FirstGreatest (backlog t p) (hold t p) (bound t p) (window t p)
+  unfolding bound boundWithin window windowWithin
+  highest = go (anyOf (ofPriority p) (t .links)) refl
+    where
+      go : (x : Bool) → anyOf (ofPriority p) (t .links) ≡ x → FirstGreatest (backlog t p) (hold t p) (bound t p) (window t p)
+      go true e = rw e (first-greatest (backlog t p) (hold t p) (omega (arith, is-hold .least-is)))
+      go false e = rw e (first-zero (backlog t p) (hold t p) (omega (arith, is-hold .least-is)) (idle e))
 
 pub bound-greatest : BoundIsGreatest
 bound-greatest t e p l =
     let h : IsHold t p (hold t p) = hold-is t p (hold t p) (has-bounds t e .holds p l) in
+    let f : FirstGreatest (backlog t p) (hold t p) (bound t p) (window t p) = highest t p h in
     record {
       is-hold = h;
-      attained = attained t p h;
-      greatest = greatest t p h;
-      unused = unused t p h;
+      greatest = f .greatest;
+      within = f .within;
+      attained = f .attained;
+      earlier = f .earlier;
+      unused = unused t p;
       untruncated = untruncated t p h;
       small = small t p h;
     }

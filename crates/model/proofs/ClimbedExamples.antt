@@ -1,30 +1,32 @@
--- The examples whose holds are reached by climbing: i, j, and the sheet of table E.
-use mathlib.Core.Path.{_≡_, refl, _∙_}
-use mathlib.Core.Bool.{false}
+-- The examples whose holds are reached by climbing: i, j, and the whole answers and sheets of tables E and Nt.
+use mathlib.Core.Path.{_≡_, refl}
+use mathlib.Core.Bool.{true}
 use mathlib.Core.Option.{none, some}
 use mathlib.Core.List.{List, _++_, flatMap}
 use Prim.Native.Nat.{ℕ, zero, suc, _<_}
 use native.Mathlib.Omega.{arith}
 use borrow.Author.Tests.{ne-eqb}
 use lib.ListN.{take}
-use Rattle.model.specs.Basics.{provided, sumTo, eight, allHold, firstMet, firstRefusal}
+use Rattle.model.specs.Basics.{provided, sumTo, eight, allTo, allHold, firstMet, firstRefusal}
 use Rattle.model.specs.Link.{bagOf, anyOf, sumOver, greatestOver}
 use Rattle.model.specs.Table.{Table, sizeOf, countsInRange, fieldsInRange, notAbove, linksChecks, allAtMost, tableChecks, tableRefusal}
 use Rattle.model.specs.Digits.{digitsOf}
 use Rattle.model.specs.TableFile.{recordBytes, countsBody, linkBody, sizesBody, tableBytes, readTable}
 use Rattle.model.specs.Arrival.{frameCurve, onLine, lineCurve, arrivalCurve}
-use Rattle.model.specs.Bounds.{ofPriority, upTo, beyond, upArrivals, blocking, holdOf, boundWithin, isThere, orZero, boundsRefusal, hold, bound}
+use Rattle.model.specs.Bounds.{ofPriority, upTo, beyond, upArrivals, blocking, holdTest, holdOf, isThere, orZero, boundsRefusal, hold, bound, window, sizedOr, sizing}
 use Rattle.model.specs.Sheet.{text, digits, numeral, difference, fill, sheetLine, header, sheetOr, sheet}
-use Rattle.model.specs.Examples.{slowLinks, oneBusyLine, tableE, Correct}
+use Rattle.model.specs.Examples.{slowLinks, oneBusyLine, tableE, tableNt, Correct}
 use Rattle.model.specs.Examples as example
+use Rattle.model.proofs.Checks.{all-to}
 use Rattle.model.proofs.Search.{climb}
-use Rattle.model.proofs.Holds.{climbed, climbed-past, no-hold, all-holds}
+use Rattle.model.proofs.Holds.{climbsTo, climbed, climbed-past, no-hold, all-holds}
+use Rattle.model.proofs.BoundFacts.{unused}
 use Rattle.model.proofs.ReadBack.{read-written}
 use Rattle.model.proofs.Examples as shown
 
 -- names for all that a climb and a table's checks compute with
 the-climb : ℕ
-unfolding climb upArrivals blocking beyond upTo arrivalCurve lineCurve onLine frameCurve greatestOver sumOver anyOf bagOf provided sumTo slowLinks
+unfolding climbsTo climb allHold holdTest upArrivals blocking beyond upTo arrivalCurve lineCurve onLine frameCurve greatestOver sumOver anyOf bagOf provided sumTo slowLinks
 the-climb = 0
 
 the-checks : ℕ
@@ -33,7 +35,7 @@ the-checks = 0
 
 pub i : Correct example.i
 unfolding Correct hold orZero the-climb
-i = rw (climbed (oneBusyLine 940) 0 44 65_536 refl tt tt tt)
+i = rw (climbed (oneBusyLine 940) 0 44 65_536 refl)
 
 j-passes : tableRefusal (oneBusyLine 941) ≡ 0
 unfolding the-checks
@@ -47,79 +49,140 @@ pub j : Correct example.j
 unfolding Correct
 j = no-hold (oneBusyLine 941) j-passes 0 (omega arith) j-climbs
 
--- ---- the sheet of table E
+-- ---- a table by its eight bounds, holds and windows
+record Numbers (t : Table) (b h w : ℕ → ℕ) : Type 0 where
+  has-bounds : boundsRefusal t ≡ 0
+  bound-is : (p : ℕ) → p < 8 → bound t p ≡ b p
+  hold-is : (p : ℕ) → p < 8 → hold t p ≡ h p
+  window-is : (p : ℕ) → p < 8 → window t p ≡ w p
+
+-- the holds by climbing n steps
+numbers : (t : Table) (n : ℕ) (b h w : ℕ → ℕ) → tableRefusal t ≡ 0 → allTo (λ p. climbsTo t p n (h p)) 8 ≡ true → ((p : ℕ) → p < 8 → (bound t p ≡ b p) × (window t p ≡ w p)) → Numbers t b h w
+unfolding isThere hold orZero
+numbers t n b h w passes ends parts =
+    let found : (p : ℕ) → p < 8 → holdOf t p ≡ some (h p) = λ p l. climbed t p n (h p) (all-to (λ p. climbsTo t p n (h p)) 8 ends p l) in
+    record {
+      has-bounds = all-holds t passes (λ p l. rw (found p l));
+      bound-is = λ p l. parts p l .0;
+      hold-is = λ p l. rw (found p l);
+      window-is = λ p l. parts p l .1;
+    }
+
+module _ {t : Table} {b h w : ℕ → ℕ} (n : Numbers t b h w) where
+  eight-same : (f g : ℕ → ℕ) → ((p : ℕ) → p < 8 → f p ≡ g p) → eight f ≡ eight g
+  eight-same f g e = rw (e 0 (omega arith), e 1 (omega arith), e 2 (omega arith), e 3 (omega arith), e 4 (omega arith), e 5 (omega arith), e 6 (omega arith), e 7 (omega arith))
+
+  sizing-is : sizing t ≡ record { refused = 0; bounds = eight b; holds = eight h; windows = eight w }
+  unfolding sizing sizedOr
+  sizing-is = rw (n .has-bounds, eight-same (bound t) b (n .bound-is), eight-same (hold t) h (n .hold-is), eight-same (window t) w (n .window-is))
+
+  sheet-is : (input : List ℕ) → readTable (take 4_653 input) ≡ record { refused = 0; table = t }
+      → sheet input ≡ header ++ flatMap (λ p. sheetLine p (b p) (h p) (w p) (sizeOf t p)) (eight (λ p. p))
+  unfolding sheet sheetOr firstRefusal flatMap
+  sheet-is input read =
+      let at : (p : ℕ) → p < 8 → sheetLine p (bound t p) (hold t p) (window t p) (sizeOf t p) ≡ sheetLine p (b p) (h p) (w p) (sizeOf t p) =
+      λ p l. rw (n .bound-is p l, n .hold-is p l, n .window-is p l) in
+      rw (
+        read,
+        n .has-bounds,
+        at 0 (omega arith),
+        at 1 (omega arith),
+        at 2 (omega arith),
+        at 3 (omega arith),
+        at 4 (omega arith),
+        at 5 (omega arith),
+        at 6 (omega arith),
+        at 7 (omega arith),
+      )
+
+-- names for all that a table file and a sheet compute with
+the-file : ℕ
+unfolding tableBytes recordBytes countsBody linkBody sizesBody digitsOf flatMap
+the-file = 0
+
+the-sheet : ℕ
+unfolding Correct header sheetLine fill difference numeral digits text flatMap
+the-sheet = 0
+
+-- ---- table E: hold 1,499, and 1,500 from priority 1 on
 e-passes : tableRefusal tableE ≡ 0
 unfolding the-checks
 e-passes = refl
 
 e-read : readTable (take 4_653 (tableBytes tableE)) ≡ record { refused = 0; table = tableE }
-unfolding tableBytes recordBytes countsBody linkBody sizesBody digitsOf flatMap
+unfolding the-file
 e-read = read-written tableE e-passes
 
--- 1,499, and 1,500 from priority 1 on
 abbrev holdE : ℕ → ℕ
 holdE zero = 1_499
 holdE (suc p) = 1_500
-
-e-holds : (p : ℕ) → p < 8 → holdOf tableE p ≡ some (holdE p)
-unfolding the-climb
-e-holds zero l = climbed tableE 0 6 1_499 refl tt tt tt
-e-holds (suc zero) l = climbed tableE 1 6 1_500 refl tt tt tt
-e-holds (suc (suc zero)) l = climbed tableE 2 6 1_500 refl tt tt tt
-e-holds (suc (suc (suc zero))) l = climbed tableE 3 6 1_500 refl tt tt tt
-e-holds (suc (suc (suc (suc zero)))) l = climbed tableE 4 6 1_500 refl tt tt tt
-e-holds (suc (suc (suc (suc (suc zero))))) l = climbed tableE 5 6 1_500 refl tt tt tt
-e-holds (suc (suc (suc (suc (suc (suc zero)))))) l = climbed tableE 6 6 1_500 refl tt tt tt
-e-holds (suc (suc (suc (suc (suc (suc (suc zero))))))) l = climbed tableE 7 6 1_500 refl tt tt tt
-e-holds (suc (suc (suc (suc (suc (suc (suc (suc p)))))))) l = absurd (omega arith)
-
-pub e-has-bounds : boundsRefusal tableE ≡ 0
-unfolding isThere
-e-has-bounds = all-holds tableE e-passes (λ p l. rw (e-holds p l))
-
-e-hold : (p : ℕ) → p < 8 → hold tableE p ≡ holdE p
-unfolding hold orZero
-e-hold p l = rw (e-holds p l)
 
 abbrev boundE : ℕ → ℕ
 boundE zero = 500
 boundE (suc zero) = 1_000
 boundE (suc (suc p)) = 0
 
-unused : (t : Table) (p : ℕ) → anyOf (ofPriority p) (t .links) ≡ false → bound t p ≡ 0
-unfolding bound boundWithin
-unused t p e = rw e
-
-e-bound : (p : ℕ) → p < 8 → bound tableE p ≡ boundE p
+e-parts : (p : ℕ) → p < 8 → (bound tableE p ≡ boundE p) × (window tableE p ≡ 0)
 unfolding Correct anyOf ofPriority
-e-bound zero l = shown.a .1
-e-bound (suc zero) l = shown.b .1
-e-bound (suc (suc p)) l = unused tableE (suc (suc p)) (rw (ne-eqb 0 (suc (suc p)) (λ x. omega arith), ne-eqb 1 (suc (suc p)) (λ x. omega arith)))
+e-parts zero l = (shown.a .1, shown.a .2)
+e-parts (suc zero) l = (shown.b .1, shown.b .2)
+e-parts (suc (suc p)) l = unused tableE (suc (suc p)) (rw (ne-eqb 0 (suc (suc p)) (λ x. omega arith), ne-eqb 1 (suc (suc p)) (λ x. omega arith)))
 
--- a sheet by its numbers
-sheet-is : (input : List ℕ) (t : Table) (b h : ℕ → ℕ) → readTable (take 4_653 input) ≡ record { refused = 0; table = t } → boundsRefusal t ≡ 0
-    → ((p : ℕ) → p < 8 → bound t p ≡ b p) → ((p : ℕ) → p < 8 → hold t p ≡ h p)
-    → sheet input ≡ header ++ flatMap (λ p. sheetLine p (b p) (h p) (sizeOf t p)) (eight (λ p. p))
-unfolding sheet sheetOr firstRefusal flatMap
-sheet-is input t b h read refusal bounds holds =
-    let at : (p : ℕ) → p < 8 → sheetLine p (bound t p) (hold t p) (sizeOf t p) ≡ sheetLine p (b p) (h p) (sizeOf t p) = λ p l. rw (bounds p l, holds p l) in
-    rw (
-      read,
-      refusal,
-      at 0 (omega arith),
-      at 1 (omega arith),
-      at 2 (omega arith),
-      at 3 (omega arith),
-      at 4 (omega arith),
-      at 5 (omega arith),
-      at 6 (omega arith),
-      at 7 (omega arith),
-    )
+e-numbers : Numbers tableE boundE holdE (λ p. 0)
+unfolding the-climb allTo
+e-numbers = numbers tableE 6 boundE holdE (λ p. 0) e-passes refl e-parts
 
-printed : header ++ flatMap (λ p. sheetLine p (boundE p) (holdE p) (sizeOf tableE p)) (eight (λ p. p)) ≡ text example.printedE
-unfolding header sheetLine fill difference numeral digits text flatMap
-printed = refl
+pub sizingE : Correct example.sizingE
+unfolding Correct
+sizingE = sizing-is e-numbers
 
 pub sheetE : Correct example.sheetE
+unfolding the-sheet
+sheetE = sheet-is e-numbers (tableBytes tableE) e-read
+
+-- ---- table Nt: hold 699, and 700 from priority 3 on
+nt-passes : tableRefusal tableNt ≡ 0
+unfolding the-checks
+nt-passes = refl
+
+nt-read : readTable (take 4_653 (tableBytes tableNt)) ≡ record { refused = 0; table = tableNt }
+unfolding the-file
+nt-read = read-written tableNt nt-passes
+
+abbrev holdNt : ℕ → ℕ
+holdNt zero = 699
+holdNt (suc zero) = 699
+holdNt (suc (suc zero)) = 699
+holdNt (suc (suc (suc p))) = 700
+
+abbrev boundNt : ℕ → ℕ
+boundNt zero = 498
+boundNt (suc zero) = 0
+boundNt (suc (suc zero)) = 0
+boundNt (suc (suc (suc zero))) = 100
+boundNt (suc (suc (suc (suc p)))) = 0
+
+abbrev windowNt : ℕ → ℕ
+windowNt zero = 298
+windowNt (suc p) = 0
+
+nt-parts : (p : ℕ) → p < 8 → (bound tableNt p ≡ boundNt p) × (window tableNt p ≡ windowNt p)
+unfolding Correct anyOf ofPriority
+nt-parts zero l = (shown.windowNt0 .1, shown.windowNt0 .2)
+nt-parts (suc zero) l = unused tableNt 1 refl
+nt-parts (suc (suc zero)) l = unused tableNt 2 refl
+nt-parts (suc (suc (suc zero))) l = (shown.windowNt3 .1, shown.windowNt3 .2)
+nt-parts (suc (suc (suc (suc p)))) l =
+    unused tableNt (suc (suc (suc (suc p)))) (rw (ne-eqb 0 (suc (suc (suc (suc p)))) (λ x. omega arith), ne-eqb 3 (suc (suc (suc (suc p)))) (λ x. omega arith)))
+
+nt-numbers : Numbers tableNt boundNt holdNt windowNt
+unfolding the-climb allTo
+nt-numbers = numbers tableNt 6 boundNt holdNt windowNt nt-passes refl nt-parts
+
+pub sizingNt : Correct example.sizingNt
 unfolding Correct
-sheetE = sheet-is (tableBytes tableE) tableE boundE holdE e-read e-has-bounds e-bound e-hold ∙ printed
+sizingNt = sizing-is nt-numbers
+
+pub sheetNt : Correct example.sheetNt
+unfolding the-sheet
+sheetNt = sheet-is nt-numbers (tableBytes tableNt) nt-read

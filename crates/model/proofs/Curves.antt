@@ -114,3 +114,22 @@ lineCurve-mono weight set links ℓ w w' h =
 pub curve-grows : CurveGrows
 unfolding arrivalCurve
 curve-grows weight set lines links w w' h = sumTo-mono _ _ lines (λ ℓ _. lineCurve-mono weight set links ℓ w w' h)
+
+-- ---- a set without links
+line-none : (set : VirtualLink → Bool) (ℓ : ℕ) (links : List VirtualLink) → anyOf set links ≡ false → anyOf (onLine set ℓ) links ≡ false
+unfolding anyOf onLine
+line-none set ℓ [] e = refl
+line-none set ℓ (v ∷ links) e = go (set v) refl (line-none set ℓ links)
+  where
+    go : (b : Bool) → set v ≡ b → (anyOf set links ≡ false → anyOf (onLine set ℓ) links ≡ false) → anyOf (onLine set ℓ) (v ∷ links) ≡ false
+    go true q ih = absurd (let z : _≡_ {A = ℕ} 0 1 = let y : true ≡ false = rw q at e in cc in omega arith)
+    go false q ih = rw q (ih (rw q at e))
+
+sumTo-none : (f : ℕ → ℕ) (n : ℕ) → ((k : ℕ) → f k ≡ 0) → sumTo f n ≡ 0
+unfolding sumTo
+sumTo-none f zero h = refl
+sumTo-none f (suc n) h = omega (arith, sumTo-none f n h, h n)
+
+pub curve-none : (weight : ℕ → ℕ) (set : VirtualLink → Bool) (lines : ℕ) (links : List VirtualLink) (w : ℕ) → anyOf set links ≡ false → arrivalCurve weight set lines links w ≡ 0
+unfolding arrivalCurve lineCurve
+curve-none weight set lines links w e = sumTo-none _ lines (λ ℓ. provided-false (anyOf (onLine set ℓ) links) _ (line-none set ℓ links e))

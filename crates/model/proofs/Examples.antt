@@ -12,7 +12,7 @@ use Rattle.model.specs.Units.{occupied}
 use Rattle.model.specs.Link.{bagOf, placeOf, anyOf, sumOver, greatestOver}
 use Rattle.model.specs.Table.{countsInRange, fieldsInRange, notAbove, linksChecks, allAtMost, tableChecks, tableRefusal}
 use Rattle.model.specs.Arrival.{frameCurve, onLine, lineCurve, arrivalCurve}
-use Rattle.model.specs.Bounds.{ofPriority, upTo, beyond, ownArrivals, upArrivals, longest, blocking, holdTest, holdBy, holdOf, backlog, boundWithin, isThere, orZero, boundsRefusal, hold, bound}
+use Rattle.model.specs.Bounds.{ofPriority, upTo, beyond, ownArrivals, upArrivals, longest, blocking, holdTest, holdBy, holdOf, backlog, boundWithin, isThere, orZero, windowWithin, boundsRefusal, hold, bound, window}
 use Rattle.model.specs.TableFile.{tableBytes}
 use Rattle.model.specs.Sheet.{text, sheet}
 use Rattle.model.specs.Machine.{highestWaiting, startIfAny, started, freedIf, byteLeaves, tick, ticks, advance, bytes, framesHeld}
@@ -20,7 +20,7 @@ use Rattle.model.specs.Port.{fresh}
 use Rattle.model.specs.Fitness.{namesLink, framesFit, senderFit, fit}
 use Rattle.model.specs.Report.{tickOf, frameChecks, reportChecks, allChecks, reportRefusal, admits, admitted, replenished, charged, checkedIf, police, policeAt, hasRoom, storedIf, store, passedIf, judge, judgeReport, bytesFreed, acceptedOr, step}
 use Rattle.model.specs.Run.{run}
-use Rattle.model.specs.Examples.{Outcome, Example, gives-bound, gives-hold, lacks-bounds, gives-answers, gives-held, gives-fates, keeps, breaks, gives-bags, gives-sheet, outcomes, Correct}
+use Rattle.model.specs.Examples.{Outcome, Example, gives-bound, gives-hold, gives-sizing, lacks-bounds, gives-answers, gives-held, gives-fates, keeps, breaks, gives-bags, gives-sheet, outcomes, Correct}
 use Rattle.model.specs.Examples as example
 
 -- ---- the common theorem: an example whose test computes to true is correct
@@ -47,13 +47,14 @@ sameOutcomes (a ∷ xs) [] = false
 sameOutcomes (a ∷ xs) (b ∷ ys) = sameOutcome a b && sameOutcomes xs ys
 
 unfoldable pub computes : Example → Bool
-computes (gives-bound t p b h) = sameNumbers (hold t p ∷ bound t p ∷ []) (h ∷ b ∷ [])
+computes (gives-bound t p b h w) = sameNumbers (hold t p ∷ boundWithin t p h ∷ windowWithin t p h ∷ []) (h ∷ b ∷ w ∷ [])
 computes (gives-hold t p h) = eqb (hold t p) h
 computes (lacks-bounds t n) = eqb (boundsRefusal t) n
 computes (gives-answers t calls expected) = sameOutcomes (outcomes t calls) expected
 computes (gives-bags bags) = sameNumbers (eight bagOf) bags
 computes (gives-sheet t printed) = sameNumbers (sheet (tableBytes t)) (text printed)
--- the words of demand 3 are shown from the answers, in ClauseExamples
+-- the whole answer is shown from its parts, in ClimbedExamples, and the words of demand 3 from the answers, in ClauseExamples
+computes (gives-sizing t expected) = false
 computes (gives-held t calls p expected) = false
 computes (gives-fates t calls n expected) = false
 computes (keeps t calls i) = false
@@ -86,15 +87,17 @@ outcomes-equal (x ∷ xs) (y ∷ ys) e =
     cc
 
 pub settled : (e : Example) → computes e ≡ true → Correct e
-unfolding computes Correct
-settled (gives-bound t p b h) e =
-    let s : (hold t p ∷ bound t p ∷ []) ≡ (h ∷ b ∷ []) = numbers-equal (hold t p ∷ bound t p ∷ []) (h ∷ b ∷ []) e in
-    (cc, cc)
+unfolding computes Correct bound window
+settled (gives-bound t p b h w) e =
+    let s : (hold t p ∷ boundWithin t p h ∷ windowWithin t p h ∷ []) ≡ (h ∷ b ∷ w ∷ []) = numbers-equal (hold t p ∷ boundWithin t p h ∷ windowWithin t p h ∷ []) (h ∷ b ∷ w ∷ []) e in
+    let is : hold t p ≡ h = cc in
+    (is, rw is cc, rw is cc)
 settled (gives-hold t p h) e = eqb-true (hold t p) h e
 settled (lacks-bounds t n) e = eqb-true (boundsRefusal t) n e
 settled (gives-answers t calls expected) e = outcomes-equal (outcomes t calls) expected e
 settled (gives-bags bags) e = numbers-equal (eight bagOf) bags e
 settled (gives-sheet t printed) e = numbers-equal (sheet (tableBytes t)) (text printed) e
+settled (gives-sizing t expected) e = absurd (let z : _≡_ {A = ℕ} 0 1 = cc in omega arith)
 settled (gives-held t calls p expected) e = absurd (let z : _≡_ {A = ℕ} 0 1 = cc in omega arith)
 settled (gives-fates t calls n expected) e = absurd (let z : _≡_ {A = ℕ} 0 1 = cc in omega arith)
 settled (keeps t calls i) e = absurd (let z : _≡_ {A = ℕ} 0 1 = cc in omega arith)
@@ -106,7 +109,7 @@ unfolding computes sameOutcomes sameOutcome sameNumbers outcomes run step accept
 the-port = 0
 
 the-formulas : ℕ
-unfolding computes sameNumbers boundsRefusal hold bound orZero isThere boundWithin backlog holdOf holdBy holdTest blocking longest upArrivals ownArrivals beyond upTo ofPriority arrivalCurve lineCurve onLine frameCurve greatestOver sumOver anyOf bagOf tableChecks allAtMost linksChecks notAbove fieldsInRange countsInRange provided sumTo greatestTo allTo allHold firstFrom firstMet occupied
+unfolding computes sameNumbers boundsRefusal hold orZero isThere boundWithin windowWithin backlog holdOf holdBy holdTest blocking longest upArrivals ownArrivals beyond upTo ofPriority arrivalCurve lineCurve onLine frameCurve greatestOver sumOver anyOf bagOf tableChecks allAtMost linksChecks notAbove fieldsInRange countsInRange provided sumTo greatestTo allTo allHold firstFrom firstMet occupied
 the-formulas = 0
 
 pub c : Correct example.c
@@ -192,3 +195,27 @@ l = settled example.l refl
 pub t : Correct example.t
 unfolding computes sameNumbers bagOf
 t = settled example.t refl
+
+pub windowK : Correct example.windowK
+unfolding the-formulas
+windowK = settled example.windowK refl
+
+pub windowP : Correct example.windowP
+unfolding the-formulas
+windowP = settled example.windowP refl
+
+pub windowO0 : Correct example.windowO0
+unfolding the-formulas
+windowO0 = settled example.windowO0 refl
+
+pub windowO1 : Correct example.windowO1
+unfolding the-formulas
+windowO1 = settled example.windowO1 refl
+
+pub windowNt0 : Correct example.windowNt0
+unfolding the-formulas
+windowNt0 = settled example.windowNt0 refl
+
+pub windowNt3 : Correct example.windowNt3
+unfolding the-formulas
+windowNt3 = settled example.windowNt3 refl

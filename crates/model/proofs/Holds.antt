@@ -7,13 +7,13 @@ use Prim.Native.Nat.{ℕ, _+_, _-_, _≤_, _<_}
 use native.Mathlib.Nat.{lt-of-not-le}
 use native.Mathlib.Decide.{decLe}
 use native.Mathlib.Omega.{arith}
-use lib.Dec.{T, leb, leb→le}
-use borrow.Author.Tests.{leb-true, leb-false, le-leb, lt-leb, not-false}
-use Rattle.model.specs.Basics.{allTo, Check, check, firstMet}
+use lib.Dec.{T, eqb, leb, leb→le}
+use borrow.Author.Tests.{eqb-true, leb-true, leb-false, le-leb, lt-leb, not-false}
+use Rattle.model.specs.Basics.{allTo, allHold, firstFrom, Check, check, firstMet}
 use Rattle.model.specs.Table.{Table, tableChecks, tableRefusal}
 use Rattle.model.specs.Bounds.{upTo, upArrivals, blocking, holdTest, holdBy, holdOf, isThere, orZero, boundsRefusal, hold}
 use Rattle.model.specs.Promises.{IsHold, HoldIsSmallest, HoldGrows}
-use Rattle.model.proofs.Checks.{all-to, to-all, first-past, none-met, numbered-append, none-front, none-back, first-none, NoneMet}
+use Rattle.model.proofs.Checks.{AllTrue, all-true, all-to, to-all, first-past, none-met, numbered-append, none-front, none-back, first-none, NoneMet}
 use Rattle.model.proofs.TableFacts.{table-numbered}
 use Rattle.model.proofs.Search.{IsFirst, found-first, found-none, first-sooner, is-first, is-none, climb, climb-below}
 use Rattle.model.proofs.Curves.{curve-grows}
@@ -60,17 +60,28 @@ climbs-past t p n k l m = go (decLe (blocking t p + upArrivals t p (k - 1)) k)
     go (yes x) = absurd (omega (arith, climb-below (upArrivals t p) (up-grows t p) (blocking t p) n 1 k x l))
     go (no x) = lt-of-not-le x
 
-pub climbed : (t : Table) (p n w : ℕ) → climb (upArrivals t p) (blocking t p) n 1 ≡ w → T (leb 1 w) → T (leb w 65_536)
-    → T (leb (blocking t p + upArrivals t p (w - 1)) w) → holdOf t p ≡ some w
-unfolding holdOf holdBy holdTest
-climbed t p n w e a b c =
-    is-first (holdTest (blocking t p) (upArrivals t p)) 65_536 1 w
-    (record {
-      from = leb→le _ _ a;
-      below = omega (arith, leb→le w 65_536 b);
-      holds = le-leb (blocking t p + upArrivals t p (w - 1)) w (leb→le (blocking t p + upArrivals t p (w - 1)) w c);
-      before = λ k l m. lt-leb _ _ (climbs-past t p n k l (omega arith));
-    })
+-- n steps of a climb end at w, which passes the test
+unfoldable pub climbsTo : Table → ℕ → ℕ → ℕ → Bool
+climbsTo t p n w =
+    allHold (eqb (climb (upArrivals t p) (blocking t p) n 1) w ∷ leb 1 w ∷ leb w 65_536 ∷ holdTest (blocking t p) (upArrivals t p) w ∷ [])
+
+pub climbed : (t : Table) (p n w : ℕ) → climbsTo t p n w ≡ true → holdOf t p ≡ some w
+unfolding climbsTo holdOf holdBy holdTest
+climbed t p n w e = go (all-true _ e)
+  where
+    not-before : climb (upArrivals t p) (blocking t p) n 1 ≡ w → (k : ℕ) → 1 ≤ k → k < w → holdTest (blocking t p) (upArrivals t p) k ≡ false
+    not-before ends k l m = lt-leb _ _ (climbs-past t p n k l (omega arith))
+
+    go : AllTrue (eqb (climb (upArrivals t p) (blocking t p) n 1) w ∷ leb 1 w ∷ leb w 65_536 ∷ holdTest (blocking t p) (upArrivals t p) w ∷ [])
+        → firstFrom (holdTest (blocking t p) (upArrivals t p)) 65_536 1 ≡ some w
+    go a =
+        is-first (holdTest (blocking t p) (upArrivals t p)) 65_536 1 w
+        (record {
+          from = leb-true 1 w (a .1 .0);
+          below = omega (arith, leb-true w 65_536 (a .1 .1 .0));
+          holds = a .1 .1 .1 .0;
+          before = not-before (eqb-true _ w (a .0));
+        })
 
 pub climbed-past : (t : Table) (p n : ℕ) → T (leb 65_537 (climb (upArrivals t p) (blocking t p) n 1)) → holdOf t p ≡ none
 unfolding holdOf holdBy holdTest

@@ -71,4 +71,5 @@ pub examples-correct : ExamplesCorrect
 examples-correct =
     also shown.a (also shown.b (also shown.c (also shown.d (also shown.e (also shown.f (also shown.g (also shown.h (also climbed.i (also climbed.j (also shown.k (also shown.l
     (also shown.m (also shown.n (also shown.o (also shown.p (also shown.q (also shown.r (also shown.s (also shown.t (also shown.u (also shown.v (also shown.w
-    (also climbed.sheetE told.words-correct)))))))))))))))))))))))
+    (also climbed.sizingE (also shown.windowK (also shown.windowP (also shown.windowO0 (also shown.windowO1 (also shown.windowNt0 (also shown.windowNt3 (also climbed.sizingNt
+    (also climbed.sheetE (also climbed.sheetNt told.words-correct))))))))))))))))))))))))))))))))

@@ -56,8 +56,6 @@ backlog t p w = min (ownArrivals t p w) (upArrivals t p w - (w - blocking t p) +
 unfoldable pub boundWithin : Table → ℕ → ℕ → ℕ
 boundWithin t p hold = cond (anyOf (ofPriority p) (t .links)) (greatestTo (backlog t p) hold) 0
 
--- ---- the answer of the bound calculation
-
 unfoldable pub isThere : Option ℕ → Bool
 isThere none = false
 isThere (some w) = true
@@ -66,26 +64,39 @@ unfoldable pub orZero : Option ℕ → ℕ
 orZero none = 0
 orZero (some w) = w
 
+-- "the smallest w at which the greatest amount occurs, and 0 for a priority without links". Window: the paper's word for how long
+-- into a busy period the bound is first reached
+unfoldable pub windowWithin : Table → ℕ → ℕ → ℕ
+windowWithin t p hold =
+    let most = boundWithin t p hold in
+    cond (anyOf (ofPriority p) (t .links)) (orZero (firstFrom (λ w. eqb (backlog t p w) most) hold 0)) 0
+
+-- ---- the answer of the bound calculation
+
 -- 8: "bounds: 3 to 6, then no hold"; "If any of the eight has none, the table has no bounds (8)"
 unfoldable pub boundsRefusal : Table → ℕ
 boundsRefusal t = firstMet (tableChecks t ++ (check 8 (not (allTo (λ p. isThere (holdOf t p)) 8)) ∷ []))
 
--- hold_p and bound_p of a table that has bounds
+-- hold_p, bound_p and window_p of a table that has bounds
 unfoldable pub hold : Table → ℕ → ℕ
 hold t p = orZero (holdOf t p)
 
 unfoldable pub bound : Table → ℕ → ℕ
 bound t p = boundWithin t p (hold t p)
 
+unfoldable pub window : Table → ℕ → ℕ
+window t p = windowWithin t p (hold t p)
+
 pub record Sizing : Type 0 where
   pub refused : ℕ
   -- eight of each, priority 0 first; all 0 with a refusal
   pub bounds : List ℕ
   pub holds : List ℕ
+  pub windows : List ℕ
 
 unfoldable pub sizedOr : ℕ → Table → Sizing
-sizedOr zero t = record { refused = 0; bounds = eight (bound t); holds = eight (hold t) }
-sizedOr (suc n) t = record { refused = suc n; bounds = replicate 8 0; holds = replicate 8 0 }
+sizedOr zero t = record { refused = 0; bounds = eight (bound t); holds = eight (hold t); windows = eight (window t) }
+sizedOr (suc n) t = record { refused = suc n; bounds = replicate 8 0; holds = replicate 8 0; windows = replicate 8 0 }
 
 unfoldable pub sizing : Table → Sizing
 sizing t = sizedOr (boundsRefusal t) t

@@ -8,7 +8,7 @@ use Rattle.model.specs.Basics.{eight, Each}
 use Rattle.model.specs.Link.{VirtualLink, bagOf, linkAt}
 use Rattle.model.specs.Table.{Table}
 use Rattle.model.specs.TableFile.{tableBytes}
-use Rattle.model.specs.Bounds.{boundsRefusal, hold, bound}
+use Rattle.model.specs.Bounds.{boundsRefusal, hold, bound, window, Sizing, sizing}
 use Rattle.model.specs.Machine.{Frame}
 use Rattle.model.specs.Report.{Report, wait, frame, Answer, Call, arrived}
 use Rattle.model.specs.Sheet.{text, sheet}
@@ -33,9 +33,10 @@ pub record Fates : Type 0 where
   pub through : List ℕ
 
 pub data Example : Type 0 where
-  -- a table with its bound and hold of a priority; or its hold alone
-  gives-bound : Table → ℕ → ℕ → ℕ → Example
+  -- a table with its bound, hold and window of a priority; or its hold alone; or all that the bound calculation answers
+  gives-bound : Table → ℕ → ℕ → ℕ → ℕ → Example
   gives-hold : Table → ℕ → ℕ → Example
+  gives-sizing : Table → Sizing → Example
   -- a table with the number under which its bounds are refused
   lacks-bounds : Table → ℕ → Example
   -- a table and calls in order, with what comes of each
@@ -76,8 +77,9 @@ fates n log =
     }
 
 unfoldable pub Correct : Example → Type 0
-Correct (gives-bound t p b h) = (hold t p ≡ h) × (bound t p ≡ b)
+Correct (gives-bound t p b h w) = (hold t p ≡ h) × (bound t p ≡ b) × (window t p ≡ w)
 Correct (gives-hold t p h) = hold t p ≡ h
+Correct (gives-sizing t expected) = sizing t ≡ expected
 Correct (lacks-bounds t n) = boundsRefusal t ≡ n
 Correct (gives-answers t calls expected) = outcomes t calls ≡ expected
 Correct (gives-held t calls p expected) = holdings t p (logOf t calls) ≡ expected
@@ -109,12 +111,22 @@ refuses n = record { answer = record { refused = n; verdict = 0; frames = 0; byt
 abbrev pub tableE : Table
 tableE = tableOf 2 (plain 1 0 0 500 ∷ plain 2 1 1 1_000 ∷ []) (2_000 ∷ 2_000 ∷ [])
 
--- "a, b. E: bounds 500 and 1,000; holds 1,499 and 1,500"
+-- "a, b. E: bounds 500 and 1,000; holds 1,499 and 1,500". "For table E the windows are all 0"
 abbrev pub a : Example
-a = gives-bound tableE 0 500 1_499
+a = gives-bound tableE 0 500 1_499 0
 
 abbrev pub b : Example
-b = gives-bound tableE 1 1_000 1_500
+b = gives-bound tableE 1 1_000 1_500 0
+
+abbrev pub sizingE : Example
+sizingE =
+    gives-sizing tableE
+    (record {
+      refused = 0;
+      bounds = 500 ∷ 1_000 ∷ replicate 6 0;
+      holds = 1_499 ∷ replicate 7 1_500;
+      windows = replicate 8 0;
+    })
 
 -- "c. E: link 2 arrives at 1,000 and link 1 at 1,001, at greatest length; link 2 is freed at 2,000, link 1 at 2,500"
 abbrev pub c : Example
@@ -148,15 +160,15 @@ f =
     gives-answers tableE callsF
     (gives 0 0 0 [] ∷ gives 0 1 500 (1 ∷ 500 ∷ 1_501 ∷ []) ∷ [])
 
--- "g. Three links of 200, priority 0, one line: bound 399, hold 600. h. On three lines: bound 600"
+-- "g. Three links of 200, priority 0, one line: bound 399, hold 600. h. On three lines: bound 600". In g the line fills the buffer until 199
 abbrev pub g : Example
-g = gives-bound (tableOf 1 (plain 0 0 0 200 ∷ plain 1 0 0 200 ∷ plain 2 0 0 200 ∷ []) []) 0 399 600
+g = gives-bound (tableOf 1 (plain 0 0 0 200 ∷ plain 1 0 0 200 ∷ plain 2 0 0 200 ∷ []) []) 0 399 600 199
 
 abbrev pub threeLines : List ℕ → Table
 threeLines sizes = tableOf 3 (plain 0 0 0 200 ∷ plain 1 1 0 200 ∷ plain 2 2 0 200 ∷ []) sizes
 
 abbrev pub h : Example
-h = gives-bound (threeLines []) 0 600 600
+h = gives-bound (threeLines []) 0 600 600 0
 
 -- "i, j. One line, priority 0, code 7: 42 links of 1,538 and one of 940 give hold 65,536; 941 instead gives 8"
 abbrev pub slow : ℕ → ℕ → VirtualLink
@@ -180,7 +192,7 @@ abbrev pub k : Example
 k =
     gives-bound
     (tableOf 1 (record { number = 0; line = 0; priority = 0; code = 0; least = 84; greatest = 100; jitter = 12_400 } ∷ []) [])
-    0 100 100
+    0 100 100 0
 
 -- l. one line: one link of 1,000 at priority 0, eight of 200 at priority 1
 abbrev pub l : Example
@@ -198,7 +210,7 @@ l =
     ∷ plain 8 0 1 200
     ∷ [])
     [])
-    1 1_199 2_600
+    1 1_199 2_600 999
 
 -- m. size 500: the third of three frames of 200 is dropped while the first is leaving. n. Its link, charged for it, is then policed
 abbrev pub tableN : Table
@@ -359,13 +371,62 @@ breaksE = breaks tableE callsE 0
 abbrev pub breaksW : Example
 breaksW = breaks tableV callsW 0
 
--- the sheet that the paper prints for table E
+-- windows. K: the bound of priority 0 is first reached when both links of its line have sent
+abbrev pub windowK : Example
+windowK = gives-bound (tableOf 2 (plain 1 0 0 200 ∷ plain 2 0 0 300 ∷ plain 3 1 1 1_000 ∷ []) []) 0 500 1_499 200
+
+-- P: six links of 200 on two lines. 400 ticks in, all have sent and 201 bytes of the 1,200 have left for good; A_p is never 999
+abbrev pub windowP : Example
+windowP =
+    gives-bound
+    (tableOf 2 (plain 1 0 0 200 ∷ plain 2 0 0 200 ∷ plain 3 0 0 200 ∷ plain 4 1 0 200 ∷ plain 5 1 0 200 ∷ plain 6 1 0 200 ∷ []) [])
+    0 999 1_200 400
+
+-- O: with jitter 12,001 a second frame may come 499 ticks after the first, one before the first has left; with 12,000 not before that
+abbrev pub late : ℕ → Table
+late jitter = tableOf 1 (record { number = 1; line = 0; priority = 0; code = 0; least = 84; greatest = 500; jitter = jitter } ∷ []) []
+
+abbrev pub windowO0 : Example
+windowO0 = gives-bound (late 12_000) 0 500 500 0
+
+abbrev pub windowO1 : Example
+windowO1 = gives-bound (late 12_001) 0 999 1_000 499
+
+-- Nt: three links of 200 on line 0 at priority 0, one of 100 on line 1 at priority 3; the priorities between keep their hold
+abbrev pub tableNt : Table
+tableNt = tableOf 2 (plain 1 0 0 200 ∷ plain 2 0 0 200 ∷ plain 3 0 0 200 ∷ plain 4 1 3 100 ∷ []) (500 ∷ 0 ∷ 0 ∷ 99 ∷ [])
+
+abbrev pub windowNt0 : Example
+windowNt0 = gives-bound tableNt 0 498 699 298
+
+abbrev pub windowNt3 : Example
+windowNt3 = gives-bound tableNt 3 100 700 0
+
+abbrev pub sizingNt : Example
+sizingNt =
+    gives-sizing tableNt
+    (record {
+      refused = 0;
+      bounds = 498 ∷ 0 ∷ 0 ∷ 100 ∷ replicate 4 0;
+      holds = 699 ∷ 699 ∷ 699 ∷ replicate 5 700;
+      windows = 298 ∷ replicate 7 0;
+    })
+
+-- the sheet that the paper prints for table E, in the seven-column form
 abbrev pub printedE : String
 printedE =
-    "priority bound hold size spare fill\n0 500 1499 2000 1500 250\n1 1000 1500 2000 1000 500\n2 0 1500 0 0 -\n3 0 1500 0 0 -\n4 0 1500 0 0 -\n5 0 1500 0 0 -\n6 0 1500 0 0 -\n7 0 1500 0 0 -\n"
+    "priority bound hold window size spare fill\n0 500 1499 0 2000 1500 250\n1 1000 1500 0 2000 1000 500\n2 0 1500 0 0 0 -\n3 0 1500 0 0 0 -\n4 0 1500 0 0 0 -\n5 0 1500 0 0 0 -\n6 0 1500 0 0 0 -\n7 0 1500 0 0 0 -\n"
 
 abbrev pub sheetE : Example
 sheetE = gives-sheet tableE printedE
+
+-- that of table Nt, where a window is not 0 and a buffer is too small
+abbrev pub printedNt : String
+printedNt =
+    "priority bound hold window size spare fill\n0 498 699 298 500 2 996\n1 0 699 0 0 0 -\n2 0 699 0 0 0 -\n3 100 700 0 99 -1 1011\n4 0 700 0 0 0 -\n5 0 700 0 0 0 -\n6 0 700 0 0 0 -\n7 0 700 0 0 0 -\n"
+
+abbrev pub sheetNt : Example
+sheetNt = gives-sheet tableNt printedNt
 
 abbrev pub words : List Example
 words =
@@ -373,7 +434,8 @@ words =
 
 abbrev pub examples : List Example
 examples =
-    a ∷ b ∷ c ∷ d ∷ e ∷ f ∷ g ∷ h ∷ i ∷ j ∷ k ∷ l ∷ m ∷ n ∷ o ∷ p ∷ q ∷ r ∷ s ∷ t ∷ u ∷ v ∷ w ∷ sheetE ∷ words
+    a ∷ b ∷ c ∷ d ∷ e ∷ f ∷ g ∷ h ∷ i ∷ j ∷ k ∷ l ∷ m ∷ n ∷ o ∷ p ∷ q ∷ r ∷ s ∷ t ∷ u ∷ v ∷ w
+    ∷ sizingE ∷ windowK ∷ windowP ∷ windowO0 ∷ windowO1 ∷ windowNt0 ∷ windowNt3 ∷ sizingNt ∷ sheetE ∷ sheetNt ∷ words
 
 abbrev pub ExamplesCorrect : Type 0
 ExamplesCorrect = Each Correct examples

@@ -11,7 +11,7 @@ use Rattle.model.specs.Table.{Table, tableRefusal}
 use Rattle.model.specs.Digits.{digitsOf, fromDigits, AllDigits}
 use Rattle.model.specs.TableFile.{tableBytes, readTable, fileLength}
 use Rattle.model.specs.Arrival.{arrivalCurve}
-use Rattle.model.specs.Bounds.{ofPriority, upArrivals, blocking, holdBy, holdOf, backlog, boundsRefusal, hold, bound}
+use Rattle.model.specs.Bounds.{ofPriority, upArrivals, blocking, holdBy, holdOf, backlog, boundsRefusal, hold, bound, window}
 use Rattle.model.specs.Machine.{Frame, Departure, advance, framesHeld}
 use Rattle.model.specs.Port.{Port}
 use Rattle.model.specs.Fitness.{fit}
@@ -76,13 +76,15 @@ abbrev pub HoldGrows : Type 0
 HoldGrows = (b b' : ℕ) (up up' : ℕ → ℕ) → b ≤ b' → ((w : ℕ) → up w ≤ up' w)
     → ((h' : ℕ) → holdBy b' up' ≡ some h' → (h : ℕ) × (holdBy b up ≡ some h) × (h ≤ h')) × (holdBy b up ≡ none → holdBy b' up' ≡ none)
 
--- of a table that has bounds: the bound is attained and is the greatest, and the difference in it is never truncated
+-- of a table that has bounds: the bound is the greatest amount, it is first attained at the window, and the difference in it is never
+-- truncated
 pub record BoundFacts (t : Table) (p : ℕ) : Type 0 where
   pub is-hold : IsHold t p (hold t p)
-  -- w is where it is attained
-  pub attained : anyOf (ofPriority p) (t .links) ≡ true → (w : ℕ) × (w < hold t p) × (backlog t p w ≡ bound t p)
-  pub greatest : anyOf (ofPriority p) (t .links) ≡ true → (w : ℕ) → w < hold t p → backlog t p w ≤ bound t p
-  pub unused : anyOf (ofPriority p) (t .links) ≡ false → bound t p ≡ 0
+  pub greatest : (w : ℕ) → w < hold t p → backlog t p w ≤ bound t p
+  pub within : window t p < hold t p
+  pub attained : backlog t p (window t p) ≡ bound t p
+  pub earlier : (w : ℕ) → w < window t p → backlog t p w < bound t p
+  pub unused : anyOf (ofPriority p) (t .links) ≡ false → (bound t p ≡ 0) × (window t p ≡ 0)
   pub untruncated : (w : ℕ) → w < hold t p → w - blocking t p ≤ upArrivals t p w
   pub small : (w : ℕ) → w < hold t p → upArrivals t p w ≤ 65_536
 

@@ -9,7 +9,7 @@ use lib.ListN.{take}
 use Rattle.model.specs.Basics.{eight, firstRefusal}
 use Rattle.model.specs.Table.{Table, sizeOf}
 use Rattle.model.specs.TableFile.{readTable}
-use Rattle.model.specs.Bounds.{boundsRefusal, hold, bound}
+use Rattle.model.specs.Bounds.{boundsRefusal, hold, bound, window}
 
 -- the bytes of a text
 unfoldable pub text : String → List ℕ
@@ -34,14 +34,16 @@ difference a b = cond (ltb a b) (text "-" ++ numeral (b - a)) (numeral (a - b))
 unfoldable pub fill : ℕ → ℕ → List ℕ
 fill bound size = cond (eqb size 0) (text "-") (numeral ((1_000 * bound + size - 1) / size))
 
--- "priority, bound, hold, size, spare = size − bound, .. and fill"
-unfoldable pub sheetLine : ℕ → ℕ → ℕ → ℕ → List ℕ
-sheetLine priority bound hold size =
+-- "priority, bound, hold, size, spare = size − bound, .. and fill"; "a column named window between hold and size"
+unfoldable pub sheetLine : ℕ → ℕ → ℕ → ℕ → ℕ → List ℕ
+sheetLine priority bound hold window size =
     numeral priority
     ++ text " "
     ++ numeral bound
     ++ text " "
     ++ numeral hold
+    ++ text " "
+    ++ numeral window
     ++ text " "
     ++ numeral size
     ++ text " "
@@ -51,11 +53,11 @@ sheetLine priority bound hold size =
     ++ text "\n"
 
 unfoldable pub header : List ℕ
-header = text "priority bound hold size spare fill\n"
+header = text "priority bound hold window size spare fill\n"
 
 -- "`refused N`, or a header and eight lines"
 unfoldable pub sheetOr : ℕ → Table → List ℕ
-sheetOr zero t = header ++ flatMap (λ p. sheetLine p (bound t p) (hold t p) (sizeOf t p)) (eight (λ p. p))
+sheetOr zero t = header ++ flatMap (λ p. sheetLine p (bound t p) (hold t p) (window t p) (sizeOf t p)) (eight (λ p. p))
 sheetOr (suc n) t = text "refused " ++ numeral (suc n) ++ text "\n"
 
 -- "The program sheet reads a table file on standard input (at most 4,653 bytes of it)"

@@ -15,7 +15,7 @@ use borrow.Author.Tests.{eq-eqb, ne-eqb, lt-ltb, le-ltb}
 use Rattle.model.specs.Sheet.{text, numeral, difference, fill, sheetLine, header}
 use Rattle.sheet_numerals.specs.declared.Text.{Text}
 use Rattle.sheet_numerals.specs.Fixed.{mostLine, recordText, Appended, signedNumeral}
-use Rattle.sheet_lines.specs.Lines.{column, linesTo, tableLines}
+use Rattle.sheet_lines.specs.Lines.{column, columns, linesTo, tableLines}
 use Rattle.sheet_numerals.proofs.Appended.{put-text}
 use Rattle.sheet_numerals.proofs.Digits.{length-most, length-one}
 use Rattle.sheet_lines.proofs.Differences.{difference-printed, difference-few, difference-exact}
@@ -78,33 +78,25 @@ spare-there size bound z h k e =
     subst⁻¹ (Spare size bound) (ap (λ (y : ℤ). toZ w64 (ofZ w64 y)) e ∙ toZ-ofZ w64 (pos size -ℤ pos bound) (difference-exact size bound h k))
     (record { few = difference-few size bound h k; printed = difference-printed size bound; short = rw (difference-printed size bound) (length-difference size bound h k) })
 
-pub line-is : (priority bound hold size : ℕ) (spare : List ℕ) → spare ≡ difference size bound →
-    column priority ++ column bound ++ column hold ++ column size ++ spare ++ text " " ++ fill bound size ++ text "\n"
-    ≡ sheetLine priority bound hold size
+pub line-is : (priority bound hold window size : ℕ) →
+    columns priority bound hold window size ++ difference size bound ++ text " " ++ fill bound size ++ text "\n"
+    ≡ sheetLine priority bound hold window size
 unfolding sheetLine
-line-is priority bound hold size spare e = rw e (simp append-assoc)
-
-pub length-line : (priority bound hold size : ℕ) → priority ≤ 7 → bound ≤ 4_294_967_295 → hold ≤ 4_294_967_295 → size ≤ 4_294_967_295 →
-    length (sheetLine priority bound hold size) ≤ mostLine
-unfolding text
-length-line priority bound hold size h i j k =
-    rw (← line-is priority bound hold size (difference size bound) refl)
-    (simp length-append
-    (omega (arith, length-one priority (omega arith), ten-digits bound i, ten-digits hold j, ten-digits size k, length-difference size bound k i, length-fill bound size i k)))
+line-is priority bound hold window size = simp append-assoc
 
 -- ---- line by line
-module _ (bounds holds sizes : List ℕ) where
-  pub none-there : (start out : Text) → start ≡ recordText [] → Appended start out header → out ≡ recordText (header ++ linesTo bounds holds sizes 0)
+module _ (bounds holds windows sizes : List ℕ) where
+  pub none-there : (start out : Text) → start ≡ recordText [] → Appended start out header → out ≡ recordText (header ++ linesTo bounds holds windows sizes 0)
   unfolding linesTo
   none-there start out e p = put-text start out [] header e p ∙ ap recordText (sym (append-nil header))
 
-  pub one-there : (p : ℕ) (out next : Text) → out ≡ recordText (header ++ linesTo bounds holds sizes p) →
-      Appended out next (sheetLine p (getD bounds p 0) (getD holds p 0) (getD sizes p 0)) → next ≡ recordText (header ++ linesTo bounds holds sizes (p + 1))
+  pub one-there : (p : ℕ) (out next : Text) → out ≡ recordText (header ++ linesTo bounds holds windows sizes p) →
+      Appended out next (sheetLine p (getD bounds p 0) (getD holds p 0) (getD windows p 0) (getD sizes p 0)) → next ≡ recordText (header ++ linesTo bounds holds windows sizes (p + 1))
   unfolding linesTo
   one-there p out next e q =
-      let line = sheetLine p (getD bounds p 0) (getD holds p 0) (getD sizes p 0) in
-      put-text out next (header ++ linesTo bounds holds sizes p) line e q
-      ∙ rw add-one (ap recordText (append-assoc header (linesTo bounds holds sizes p) line))
+      let line = sheetLine p (getD bounds p 0) (getD holds p 0) (getD windows p 0) (getD sizes p 0) in
+      put-text out next (header ++ linesTo bounds holds windows sizes p) line e q
+      ∙ rw add-one (ap recordText (append-assoc header (linesTo bounds holds windows sizes p) line))
 
-  pub all-there : (p : ℕ) (out : Text) → p ≡ 8 → out ≡ recordText (header ++ linesTo bounds holds sizes p) → out ≡ recordText (tableLines bounds holds sizes)
+  pub all-there : (p : ℕ) (out : Text) → p ≡ 8 → out ≡ recordText (header ++ linesTo bounds holds windows sizes p) → out ≡ recordText (tableLines bounds holds windows sizes)
   all-there p out n e = rw n at e

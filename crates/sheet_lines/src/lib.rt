@@ -3,17 +3,28 @@ use sheet_numerals::Text;
 ghost use mathlib.Core.Path.{_≡_};
 ghost use Prim.Native.Nat.{_+_, _≤_};
 ghost use lib.IntN.{pos, _-ℤ_};
-ghost use lib.ListN.{length};
-ghost use Rattle.model.specs.Sheet.{numeral, fill, sheetLine};
+ghost use Rattle.model.specs.Sheet.{numeral, difference, fill, sheetLine};
 ghost use Rattle.sheet_numerals.specs.Fixed.{textRoom, mostLine, recordText, Appended};
-ghost use Rattle.sheet_lines.specs.Lines.{column, tableLines, refusalLine};
+ghost use Rattle.sheet_lines.specs.Lines.{column, columns, tableLines, refusalLine};
 
-fn put_column(out: Text, n: u64) -> Text
-    requires { ⌜ out .len + length (numeral n) + 1 ≤ textRoom ⌝ }
-    ensures { λ r. ⌜ Appended out r (column n) ⌝ }
+fn put_column(out: Text, n: u32) -> Text
+    requires { ⌜ out .len + 11 ≤ textRoom ⌝ }
+    ensures { λ r. ⌜ Appended out r (column n) × (r .len ≤ out .len + 11) ⌝ }
 {
-    let numbered = sheet_numerals::put_numeral(out, n);
+    let numbered = sheet_numerals::put_numeral(out, n as u64);
     sheet_numerals::put(numbered, b" ")
+}
+
+// All columns before spare.
+fn put_columns(out: Text, priority: u32, bound: u32, hold: u32, window: u32, size: u32) -> Text
+    requires { ⌜ (priority ≤ 7) × (out .len + 46 ≤ textRoom) ⌝ }
+    ensures { λ r. ⌜ Appended out r (columns priority bound hold window size) × (r .len ≤ out .len + 46) ⌝ }
+{
+    let out = put_column(out, priority);
+    let out = put_column(out, bound);
+    let out = put_column(out, hold);
+    let out = put_column(out, window);
+    put_column(out, size)
 }
 
 // Exact at and below zero.
@@ -21,6 +32,13 @@ fn spare(size: u32, bound: u32) -> i64
     ensures { λ r. ⌜ r ≡ pos size -ℤ pos bound ⌝ }
 {
     (size as i64) - (bound as i64)
+}
+
+fn put_spare(out: Text, size: u32, bound: u32) -> Text
+    requires { ⌜ out .len + 11 ≤ textRoom ⌝ }
+    ensures { λ r. ⌜ Appended out r (difference size bound) × (r .len ≤ out .len + 11) ⌝ }
+{
+    sheet_numerals::put_signed(out, spare(size, bound))
 }
 
 // 1000 × bound / size, rounded up.
@@ -34,7 +52,7 @@ fn per_mille(bound: u32, size: u32) -> u64
 
 fn put_fill(out: Text, bound: u32, size: u32) -> Text
     requires { ⌜ out .len + 13 ≤ textRoom ⌝ }
-    ensures { λ r. ⌜ Appended out r (fill bound size) ⌝ }
+    ensures { λ r. ⌜ Appended out r (fill bound size) × (r .len ≤ out .len + 13) ⌝ }
 {
     if size == 0 {
         return sheet_numerals::put(out, b"-");
@@ -42,31 +60,26 @@ fn put_fill(out: Text, bound: u32, size: u32) -> Text
     sheet_numerals::put_numeral(out, per_mille(bound, size))
 }
 
-fn put_line(out: Text, priority: usize, bound: u32, hold: u32, size: u32) -> Text
+fn put_line(out: Text, priority: u32, bound: u32, hold: u32, window: u32, size: u32) -> Text
     requires { ⌜ (priority ≤ 7) × (out .len + mostLine ≤ textRoom) ⌝ }
-    ensures { λ r. ⌜ Appended out r (sheetLine priority bound hold size) × (r .len ≤ out .len + mostLine) ⌝ }
+    ensures { λ r. ⌜ Appended out r (sheetLine priority bound hold window size) × (r .len ≤ out .len + mostLine) ⌝ }
 {
-    let out = put_column(out, priority as u64);
-    let out = put_column(out, bound as u64);
-    let out = put_column(out, hold as u64);
-    let out = put_column(out, size as u64);
-    let out = sheet_numerals::put_signed(out, spare(size, bound));
+    let out = put_columns(out, priority, bound, hold, window, size);
+    let out = put_spare(out, size, bound);
     let out = sheet_numerals::put(out, b" ");
     let out = put_fill(out, bound, size);
     sheet_numerals::put(out, b"\n")
 }
 
 // Each priority has its line, also where no link has that priority.
-pub fn table_lines(bounds: [u32; 8], holds: [u32; 8], sizes: [u32; 8]) -> Text
-    ensures { λ r. ⌜ r ≡ recordText (tableLines bounds holds sizes) ⌝ }
+pub fn table_lines(bounds: [u32; 8], holds: [u32; 8], windows: [u32; 8], sizes: [u32; 8]) -> Text
+    ensures { λ r. ⌜ r ≡ recordText (tableLines bounds holds windows sizes) ⌝ }
 {
-    let mut out = sheet_numerals::put(
-        sheet_numerals::blank(),
-        b"priority bound hold size spare fill\n",
-    );
+    let start = sheet_numerals::blank();
+    let mut out = sheet_numerals::put(start, b"priority bound hold window size spare fill\n");
     let mut p: usize = 0;
     while p < 8 {
-        let line = put_line(out, p, bounds[p], holds[p], sizes[p]);
+        let line = put_line(out, p as u32, bounds[p], holds[p], windows[p], sizes[p]);
         out = line;
         p += 1;
     }

@@ -10,10 +10,10 @@ use Rattle.sheet_numerals.specs.declared.Text.{Text}
 
 -- the most bytes of a line, and of a sheet: the header, and a line for each priority
 abbrev pub mostLine : ℕ
-mostLine = 61
+mostLine = 72
 
 abbrev pub headerLength : ℕ
-headerLength = 36
+headerLength = 43
 
 abbrev pub textRoom : ℕ
 textRoom = headerLength + 8 * mostLine

@@ -7,12 +7,12 @@ ghost use lib.ListN.{length};
 ghost use Rattle.model.specs.Sheet.{numeral};
 ghost use Rattle.sheet_numerals.specs.Fixed.{textRoom, recordText, Appended, signedNumeral};
 
-// The most bytes of a line: 1 digit for the priority, 10 for each of three 32-bit numbers, 11 for spare, 13 for fill,
-// 5 blanks and the end.
-const LINE: usize = 61;
+// The most bytes of a line: 1 digit for the priority, 10 for each of four 32-bit numbers, 11 for spare, 13 for fill,
+// 6 blanks and the end.
+const LINE: usize = 72;
 
 // The header, and a line for each priority.
-pub const ROOM: usize = 36 + 8 * LINE;
+pub const ROOM: usize = 43 + 8 * LINE;
 
 // Bytes behind len are 0.
 pub struct Text {

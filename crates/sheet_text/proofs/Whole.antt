@@ -6,15 +6,17 @@ use native.Mathlib.Decide.{decLe}
 use native.Mathlib.Omega.{arith}
 use lib.ListN.{length, take}
 use lib.Seq.{take-all}
-use Rattle.model.specs.Basics.{eight, firstRefusal}
+use Rattle.model.specs.Basics.{firstRefusal}
 use Rattle.model.specs.Table.{Table}
 use Rattle.model.specs.TableFile.{Reading, readTable}
-use Rattle.model.specs.Bounds.{boundsRefusal, bound, hold, sizedOr, sizing}
+use Rattle.model.specs.Bounds.{boundsRefusal, sizedOr, sizing}
 use Rattle.model.specs.Sheet.{sheetOr, sheet}
 use Rattle.table_file.specs.declared.Reading.{Reading as ReadingRecord}
 use Rattle.table.specs.View.{viewTable, recordTable}
 use Rattle.table_file.specs.Answers.{recordReading}
 use Rattle.table_file.proofs.Back.{read-shown}
+use Rattle.bounds.specs.declared.Bounds.{Bounds as BoundsRecord}
+use Rattle.bounds.specs.Answer.{recordBounds}
 use Rattle.sheet_numerals.specs.declared.Text.{Text}
 use Rattle.sheet_numerals.specs.Fixed.{recordText}
 use Rattle.sheet_lines.specs.Lines.{linesTo, tableLines, refusalLine}
@@ -35,27 +37,13 @@ unfolding sizedOr
 refused-or zero t = refl
 refused-or (suc n) t = refl
 
-bounds-or : (n : ℕ) (t : Table) → n ≡ 0 → sizedOr n t .bounds ≡ eight (bound t)
-unfolding sizedOr
-bounds-or zero t e = refl
-bounds-or (suc n) t e = absurd (omega arith)
-
-holds-or : (n : ℕ) (t : Table) → n ≡ 0 → sizedOr n t .holds ≡ eight (hold t)
-unfolding sizedOr
-holds-or zero t e = refl
-holds-or (suc n) t e = absurd (omega arith)
-
 refused-is : (t : Table) → sizing t .refused ≡ boundsRefusal t
 unfolding sizing
 refused-is t = refused-or (boundsRefusal t) t
 
-bounds-are : (t : Table) → sizing t .refused ≡ 0 → sizing t .bounds ≡ eight (bound t)
+sized : (t : Table) → boundsRefusal t ≡ 0 → sizing t ≡ sizedOr 0 t
 unfolding sizing
-bounds-are t e = bounds-or (boundsRefusal t) t (sym (refused-is t) ∙ e)
-
-holds-are : (t : Table) → sizing t .refused ≡ 0 → sizing t .holds ≡ eight (hold t)
-unfolding sizing
-holds-are t e = holds-or (boundsRefusal t) t (sym (refused-is t) ∙ e)
+sized t e = ap (λ (n : ℕ). sizedOr n t) e
 
 -- ---- the lines that they make
 refused-line : (n : ℕ) (t : Table) → (n ≡ 0 → ⊥) → refusalLine n ≡ sheetOr n t
@@ -63,8 +51,8 @@ unfolding sheetOr
 refused-line zero t h = absurd (h refl)
 refused-line (suc n) t h = refl
 
-lines-there : (t : Table) → tableLines (eight (bound t)) (eight (hold t)) (t .sizes) ≡ sheetOr 0 t
-unfolding sheetOr linesTo flatMap
+lines-there : (t : Table) → tableLines (sizedOr 0 t .bounds) (sizedOr 0 t .holds) (sizedOr 0 t .windows) (t .sizes) ≡ sheetOr 0 t
+unfolding sizedOr sheetOr linesTo flatMap
 lines-there t = simp (append-assoc, append-nil)
 
 none-second : (n m : ℕ) → firstRefusal n m ≡ 0 → m ≡ 0
@@ -94,21 +82,22 @@ module _ (input : List ℕ) (end : ℕ) (r : ReadingRecord) (n : end ≡ min (le
   unfolding recordTable
   sizes-same = ap (λ (x : ReadingRecord). x .table .sizes) read
 
-  module _ (refused number : ℕ) (same : refused ≡ sizing (viewTable (r .table)) .refused) (first : number ≡ firstRefusal (r .refused) refused) where
-    number-is : number ≡ firstRefusal (file .refused) (sizing (file .table) .refused)
-    number-is = first ∙ rw (same, shown, read)
+  module _ (a : BoundsRecord) (number : ℕ) (said : a ≡ recordBounds (sizing (viewTable (r .table)))) (first : number ≡ firstRefusal (r .refused) (a .refused)) where
+    answered : a ≡ recordBounds (sizing (file .table))
+    answered = said ∙ ap (λ (t : Table). recordBounds (sizing t)) shown
+
+    number-is : number ≡ firstRefusal (file .refused) (boundsRefusal (file .table))
+    number-is = first ∙ rw (answered, read, refused-is (file .table))
 
     whole : sheetOr number (file .table) ≡ sheet input
     unfolding sheet
-    whole = rw (number-is, refused-is (file .table), n, cut input)
+    whole = rw (number-is, n, cut input)
 
     pub refused-text : (x : Text) → (number ≡ 0 → ⊥) → x ≡ recordText (refusalLine number) → x ≡ recordText (sheet input)
     refused-text x h e = e ∙ ap recordText (refused-line number (file .table) h ∙ whole)
 
-    pub lines-text : (x : Text) (bounds holds : List ℕ) → number ≡ 0 → bounds ≡ sizing (viewTable (r .table)) .bounds → holds ≡ sizing (viewTable (r .table)) .holds →
-        x ≡ recordText (tableLines bounds holds (r .table .sizes)) → x ≡ recordText (sheet input)
-    lines-text x bounds holds z b h e =
-        let none : sizing (file .table) .refused ≡ 0 = none-second (file .refused) (sizing (file .table) .refused) (sym number-is ∙ z) in
-        let bs : bounds ≡ eight (bound (file .table)) = b ∙ ap (λ (t : Table). sizing t .bounds) shown ∙ bounds-are (file .table) none in
-        let hs : holds ≡ eight (hold (file .table)) = h ∙ ap (λ (t : Table). sizing t .holds) shown ∙ holds-are (file .table) none in
-        e ∙ ap recordText (rw (bs, hs, sizes-same) (lines-there (file .table)) ∙ ap (λ (k : ℕ). sheetOr k (file .table)) (sym z) ∙ whole)
+    pub lines-text : (x : Text) → number ≡ 0 → x ≡ recordText (tableLines (a .bounds) (a .holds) (a .windows) (r .table .sizes)) → x ≡ recordText (sheet input)
+    lines-text x z e =
+        let none : boundsRefusal (file .table) ≡ 0 = none-second (file .refused) (boundsRefusal (file .table)) (sym number-is ∙ z) in
+        let answer : a ≡ recordBounds (sizedOr 0 (file .table)) = answered ∙ ap recordBounds (sized (file .table) none) in
+        e ∙ ap recordText (rw (answer, sizes-same) (lines-there (file .table)) ∙ ap (λ (k : ℕ). sheetOr k (file .table)) (sym z) ∙ whole)

@@ -33,6 +33,7 @@ pub fn text_of(input: &[u8]) -> Text
     }
     let bounds = answer.bounds;
     let holds = answer.holds;
+    let windows = answer.windows;
     let sizes = t.sizes;
-    sheet_lines::table_lines(bounds, holds, sizes)
+    sheet_lines::table_lines(bounds, holds, windows, sizes)
 }

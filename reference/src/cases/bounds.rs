@@ -74,7 +74,7 @@ fn forty_three(last: u16) -> Table {
     make::table_of(1, &links, [16_384, 0, 1, 2, 3, 0, 0, 16_384])
 }
 
-/// Table E, the examples g to l, and their neighbours.
+/// Table E, the examples g to l, those with known windows, and their neighbours.
 fn named() -> Vec<Table> {
     let three = [0, 1, 2].map(|number| link(number, 0, 0, 200));
     let apart = [0, 1, 2].map(|number| link(number, number as u8, 0, 200));
@@ -94,11 +94,28 @@ fn named() -> Vec<Table> {
         make::table_of(1, &[late], [99, 0, 0, 0, 0, 0, 0, 0]),
         make::table_of(1, &l, [1_000, 1_199, 0, 0, 0, 0, 0, 0]),
     ];
+    tables.extend(windows());
     for last in [938, 939, 940, 941, 942] {
         tables.push(forty_three(last));
     }
     for jitter in [12_300, 12_399, 12_400, 12_401, 12_500] {
         tables.push(make::table_of(1, &[Link { jitter, ..late }], [100; 8]));
+    }
+    tables
+}
+
+/// Tables whose windows are known: K, O with its neighbours, P, Nt.
+fn windows() -> Vec<Table> {
+    let k = [link(1, 0, 0, 200), link(2, 0, 0, 300), link(3, 1, 1, 1_000)];
+    let p = [1, 2, 3, 4, 5, 6].map(|number| link(number, u8::from(number > 3), 0, 200));
+    let nt = [link(1, 0, 0, 200), link(2, 0, 0, 200), link(3, 0, 0, 200), link(4, 1, 3, 100)];
+    let mut tables = vec![
+        make::table_of(2, &k, [500, 1_000, 0, 0, 0, 0, 0, 0]),
+        make::table_of(2, &p, [999, 0, 0, 0, 0, 0, 0, 0]),
+        make::table_of(2, &nt, [500, 0, 0, 99, 0, 0, 0, 0]),
+    ];
+    for jitter in [11_999, 12_000, 12_001, 12_002] {
+        tables.push(make::table_of(1, &[Link { jitter, ..link(1, 0, 0, 500) }], [999; 8]));
     }
     tables
 }
@@ -171,6 +188,16 @@ pub fn cases() -> Cases {
 mod tests {
     use super::*;
     use crate::table::read;
+
+    /// Slips in a window show where windows are neither 0 nor rare; the line's cut in A_p changes windows alone.
+    #[test]
+    fn there_are_enough_windows() {
+        let tables = files().iter().filter_map(|file| read(file).ok()).collect::<Vec<Table>>();
+        let windows: Vec<u64> =
+            tables.iter().filter_map(|table| bounds(table).ok()).flat_map(|found| found.windows).collect();
+        assert!(windows.iter().filter(|window| **window > 0).count() >= 100);
+        assert!(windows.iter().filter(|window| **window > 10_000).count() >= 10);
+    }
 
     #[test]
     fn there_are_enough_tables_and_each_leaves_a_priority_unused() {

@@ -18,10 +18,18 @@ sum-of-requires-2 c κs = search needs
 add-result : tie.Need-add-result
 add-result c = search needs
 
+sum-of-requires-3 : tie.Need-sum-of-requires-3
+sum-of-requires-3 c κs = search needs
+
+add-result-2 : tie.Need-add-result-2
+add-result-2 c = search needs
+
 returns : tie.Need-returns
 returns c =
-    sizing-is _ (c .before .before .before .before .before .before .read .result) (c .before .before .before .before .bounds-of .result) (c .before .sum-of .result) (c .sum-of2 .result) (c .before .before .before .before .before .before .read .ensures)
-    (c .before .before .before .before .bounds-of .ensures) (c .before .sum-of .ensures .0) (c .sum-of2 .ensures .0)
+    let reading = c .before .before .before .before .before .before .before .before .read in
+    let answer = c .before .before .before .before .before .before .bounds-of in
+    sizing-is _ (reading .result) (answer .result) (c .before .before .sum-of .result) (c .before .sum-of2 .result) (c .sum-of3 .result) (reading .ensures) (answer .ensures)
+    (c .before .before .sum-of .ensures .0) (c .before .sum-of2 .ensures .0) (c .sum-of3 .ensures .0)
 
 pub bench-sizing-spec : {M : Type 1} → statement M
 bench-sizing-spec =
@@ -32,4 +40,6 @@ bench-sizing-spec =
     sum-of-requires
     sum-of-requires-2
     add-result
+    sum-of-requires-3
+    add-result-2
     returns)

@@ -8,10 +8,10 @@ use Rattle.bounds.proofs.bounds_of.Statement.{statement}
 use Rattle.bounds.proofs.bounds_of.Tie as tie
 
 abbrev Inv-loop : tie.InvT-loop
-Inv-loop t number bounds₀ holds₀ p₀ bounds holds p = (p ≤ 8) × Known (viewTable t) bounds holds p
+Inv-loop t number bounds₀ holds₀ windows₀ p₀ bounds holds windows p = (p ≤ 8) × Known (viewTable t) bounds holds windows p
 
 abbrev μ-loop : tie.MeasureT-loop
-μ-loop t number bounds₀ holds₀ p₀ bounds holds p = 8 - p
+μ-loop t number bounds₀ holds₀ windows₀ p₀ bounds holds windows p = 8 - p
 
 check-requires : tie.Need-check-requires Inv-loop μ-loop
 check-requires c κs = search needs
@@ -57,6 +57,12 @@ mul-holds c = omega arith
 array-write-holds : tie.Need-array-write-holds Inv-loop μ-loop
 array-write-holds c = omega arith
 
+mul-windows : tie.Need-mul-windows Inv-loop μ-loop
+mul-windows c = omega arith
+
+array-write-windows : tie.Need-array-write-windows Inv-loop μ-loop
+array-write-windows c = omega arith
+
 add-p : tie.Need-add-p Inv-loop μ-loop
 add-p c = omega arith
 
@@ -68,7 +74,7 @@ loop-again c =
     let s = c .before .before .before .before .before .before .before in
     let o = c .before .before .before .before .loop in
     let l = c .before .before .limits-of in
-    (omega arith, known-more (viewTable (s .args .t)) (o .bounds) (o .holds) (o .p) (o .inv .1) (omega arith) (l .result) (l .ensures) (c .if2 .left))
+    (omega arith, known-more (viewTable (s .args .t)) (o .bounds) (o .holds) (o .windows) (o .p) (o .inv .1) (omega arith) (l .result) (l .ensures) (c .if2 .left))
 
 returns-3 : tie.Need-returns-3 Inv-loop μ-loop
 returns-3 c =
@@ -76,7 +82,7 @@ returns-3 c =
     let k = c .before .before .before .check in
     let o = c .before .loop in
     let e : o .p ≡ 8 = omega arith in
-    all-known (viewTable (s .args .t)) (o .bounds) (o .holds) (rw e at (o .inv .1)) (sym (k .ensures) ∙ c .before .before .if1 .left)
+    all-known (viewTable (s .args .t)) (o .bounds) (o .holds) (o .windows) (rw e at (o .inv .1)) (sym (k .ensures) ∙ c .before .before .if1 .left)
 
 pub bounds-of-spec : {M : Type 1} → statement M
 bounds-of-spec =
@@ -96,6 +102,8 @@ bounds-of-spec =
     array-write-bounds
     mul-holds
     array-write-holds
+    mul-windows
+    array-write-windows
     add-p
     loop-less
     loop-again

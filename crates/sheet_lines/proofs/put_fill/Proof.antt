@@ -14,7 +14,9 @@ put-requires c κs = search needs
 
 returns : tie.Need-returns
 unfolding text
-returns c = same-put (c .put .ensures) (fill-none (c .before .before .before .args .bound) (c .before .before .before .args .size) (c .before .before .if1 .taken))
+returns c =
+    let s = c .before .before .before in
+    (same-put (c .put .ensures) (fill-none (s .args .bound) (s .args .size) (c .before .before .if1 .taken)), omega arith)
 
 per-mille-requires : tie.Need-per-mille-requires
 per-mille-requires c κs = search needs
@@ -23,7 +25,9 @@ put-numeral-requires : tie.Need-put-numeral-requires
 put-numeral-requires c κs = omega (arith, thirteen-digits (c .per-mille .result) (c .per-mille .ensures .1))
 
 returns-2 : tie.Need-returns-2
-returns-2 c = same-put (c .put-numeral .ensures) (c .before .per-mille .ensures .0)
+returns-2 c =
+    let m = c .before .per-mille in
+    (same-put (c .put-numeral .ensures) (m .ensures .0), omega (arith, thirteen-digits (m .result) (m .ensures .1)))
 
 pub put-fill-spec : {M : Type 1} → statement M
 put-fill-spec =

@@ -1,7 +1,5 @@
-use mathlib.Core.Path.{ap}
 use native.Mathlib.Omega.{arith}
 use lib.ListN.{length-take}
-use Rattle.bounds.specs.declared.Bounds.{Bounds}
 use Rattle.sheet_text.proofs.Whole.{refused-text, lines-text}
 use borrow.Author.Needs.{needs}
 use Rattle.sheet_text.proofs.text_of.Statement.{statement}
@@ -32,7 +30,7 @@ returns c =
     let reading = c .before .before .before .before .before .read in
     let answer = c .before .before .before .bounds-of in
     let first = c .before .before .first-refusal in
-    refused-text input (used .result) (reading .result) (used .ensures) (reading .ensures) (answer .result .refused) (first .result) (ap (λ (b : Bounds). b .refused) (answer .ensures)) (first .ensures)
+    refused-text input (used .result) (reading .result) (used .ensures) (reading .ensures) (answer .result) (first .result) (answer .ensures) (first .ensures)
     (c .refusal-line .result) (c .before .if1 .taken) (c .refusal-line .ensures)
 
 table-lines-requires : tie.Need-table-lines-requires
@@ -40,14 +38,13 @@ table-lines-requires c κs = search needs
 
 returns-2 : tie.Need-returns-2
 returns-2 c =
-    let input = c .before .before .before .before .before .before .before .before .before .before .before .before .args .input .now in
-    let used = c .before .before .before .before .before .before .before .before .before .before .used in
-    let reading = c .before .before .before .before .before .before .before .before .read in
-    let answer = c .before .before .before .before .before .before .bounds-of in
-    let first = c .before .before .before .before .before .first-refusal in
-    lines-text input (used .result) (reading .result) (used .ensures) (reading .ensures) (answer .result .refused) (first .result) (ap (λ (b : Bounds). b .refused) (answer .ensures)) (first .ensures)
-    (c .table-lines .result) (answer .result .bounds) (answer .result .holds) (c .before .before .before .before .if1 .left) (ap (λ (b : Bounds). b .bounds) (answer .ensures)) (ap (λ (b : Bounds). b .holds) (answer .ensures))
-    (c .table-lines .ensures)
+    let input = c .before .before .before .before .before .before .before .before .before .before .before .before .before .args .input .now in
+    let used = c .before .before .before .before .before .before .before .before .before .before .before .used in
+    let reading = c .before .before .before .before .before .before .before .before .before .read in
+    let answer = c .before .before .before .before .before .before .before .bounds-of in
+    let first = c .before .before .before .before .before .before .first-refusal in
+    lines-text input (used .result) (reading .result) (used .ensures) (reading .ensures) (answer .result) (first .result) (answer .ensures) (first .ensures)
+    (c .table-lines .result) (c .before .before .before .before .before .if1 .left) (c .table-lines .ensures)
 
 pub text-of-spec : {M : Type 1} → statement M
 text-of-spec =
