@@ -1,4 +1,4 @@
-//! Bounds and holds: the product beside the literal formulas and beside the same method in plain Rust.
+//! Bounds, holds and windows, and the sheet: the product beside the literal formulas and beside the same method in plain Rust.
 
 use crate::measure::{compare, once};
 use crate::table::{file_of, read, Link, Table};
@@ -6,10 +6,15 @@ use std::hint::black_box;
 
 extern "C" {
     fn bench_sizing(file: *const u8, length: usize) -> u64;
+    fn bench_sheet(file: *const u8, length: usize) -> u64;
 }
 
 fn product(file: &[u8]) -> u64 {
     unsafe { bench_sizing(file.as_ptr(), file.len()) }
+}
+
+fn product_sheet(file: &[u8]) -> u64 {
+    unsafe { bench_sheet(file.as_ptr(), file.len()) }
 }
 
 const BAGS: [u64; 8] = [12_500, 25_000, 50_000, 100_000, 200_000, 400_000, 800_000, 1_600_000];
@@ -56,29 +61,50 @@ fn arrivals(t: &Table, low: u8, high: u8, w: u64, frames: impl Fn(&Link, u64) ->
     total(&loads(t, low, high, w, frames), t.lines, w)
 }
 
+/// Bound, hold and window of each priority.
+#[derive(Clone, Copy, Debug, Default, PartialEq)]
+struct Limits {
+    bound: u64,
+    hold: u64,
+    window: u64,
+}
+
+fn sum(rows: &[Limits; 8]) -> u64 {
+    rows.iter().map(|r| r.bound + r.hold + r.window).sum()
+}
+
 /// The literal formulas: for each priority, for each w in turn, A anew by one pass over all links and one over all lines.
-fn literal(t: &Table) -> Option<u64> {
-    let mut sum = 0;
-    for p in 0..8 {
+fn literal(t: &Table) -> Option<[Limits; 8]> {
+    let mut rows = [Limits::default(); 8];
+    for (p, row) in (0..8).zip(&mut rows) {
         let b = longest(t, p + 1, 7).saturating_sub(1);
-        let hold = (1..=65_536).find(|w| b + arrivals(t, 0, p, w - 1, frames) <= *w)?;
+        row.hold = (1..=65_536).find(|w| b + arrivals(t, 0, p, w - 1, frames) <= *w)?;
         let m = longest(t, p, p);
-        let bound = |w: u64| arrivals(t, p, p, w, frames).min(arrivals(t, 0, p, w, frames) - w.saturating_sub(b) + m - 1);
-        sum += hold + if m == 0 { 0 } else { (0..hold).map(bound).max()? };
+        if m == 0 {
+            continue;
+        }
+        for w in 0..row.hold {
+            let amount = arrivals(t, p, p, w, frames).min(arrivals(t, 0, p, w, frames) - w.saturating_sub(b) + m - 1);
+            if amount > row.bound {
+                (row.bound, row.window) = (amount, w);
+            }
+        }
     }
-    Some(sum)
+    Some(rows)
 }
 
 /// The same method: climb to the hold; stretches in which no N changes; a cap; bisection on the slope.
-fn fast(t: &Table) -> Option<u64> {
-    let mut sum = 0;
-    for p in 0..8 {
+fn fast(t: &Table) -> Option<[Limits; 8]> {
+    let mut rows = [Limits::default(); 8];
+    for (p, row) in (0..8).zip(&mut rows) {
         let b = longest(t, p + 1, 7).saturating_sub(1);
-        let hold = climb(t, p, b)?;
+        row.hold = climb(t, p, b)?;
         let m = longest(t, p, p);
-        sum += hold + if m == 0 { 0 } else { peak(t, p, b, m, hold - 1) };
+        if m > 0 {
+            (row.bound, row.window) = peak(t, p, b, m, row.hold - 1);
+        }
     }
-    Some(sum)
+    Some(rows)
 }
 
 fn climb(t: &Table, p: u8, b: u64) -> Option<u64> {
@@ -93,8 +119,9 @@ fn climb(t: &Table, p: u8, b: u64) -> Option<u64> {
     None
 }
 
-fn peak(t: &Table, p: u8, b: u64, m: u64, last: u64) -> u64 {
-    let (mut best, mut w) = (0, 0);
+/// The greatest amount, and the first w at which it occurs.
+fn peak(t: &Table, p: u8, b: u64, m: u64, last: u64) -> (u64, u64) {
+    let (mut best, mut window, mut w) = (0, 0, 0);
     while w <= last {
         let (own, up) = (loads(t, p, p, w, frames_by_shift), loads(t, 0, p, w, frames_by_shift));
         let until = steady(t, p, w).min(last);
@@ -111,11 +138,14 @@ fn peak(t: &Table, p: u8, b: u64, m: u64, last: u64) -> u64 {
                     high = mid;
                 }
             }
-            best = best.max(by(low, low));
+            let amount = by(low, low);
+            if amount > best {
+                (best, window) = (amount, low);
+            }
         }
         w = until + 1;
     }
-    best
+    (best, window)
 }
 
 fn steady(t: &Table, high: u8, w: u64) -> u64 {
@@ -148,12 +178,13 @@ fn holds(t: &Table) -> Vec<u64> {
 fn case(what: &str, t: &Table, calls: usize, with_literal: bool) {
     let file = file_of(t);
     let same = read(&file).ok().and_then(|t| fast(&t));
-    assert_eq!(Some(product(&file)), same);
+    assert_eq!(Some(product(&file)), same.as_ref().map(sum));
+    assert_eq!(product_sheet(&file), byte_sum(&sheet(&file)));
     let h = holds(t);
     println!("{what}: holds {} to {}", h.iter().min().unwrap(), h.iter().max().unwrap());
     if with_literal {
-        let (slow, sum) = once(|| literal(t));
-        assert_eq!(sum, same);
+        let (slow, rows) = once(|| literal(t));
+        assert_eq!(rows, same);
         let (quick, _) = once(|| product(&file));
         println!("{:<44} {:>9.2} ms {:>9.2} ms {:>7.4}", "  beside the literal formulas", quick * 1e3, slow * 1e3, quick / slow);
     }
@@ -167,6 +198,41 @@ fn case(what: &str, t: &Table, calls: usize, with_literal: bool) {
             black_box(read(black_box(&file)).ok().and_then(|t| fast(&t)));
         },
     );
+    compare(
+        "  the sheet beside the same method",
+        calls,
+        || {
+            black_box(product_sheet(black_box(&file)));
+        },
+        || {
+            black_box(byte_sum(&sheet(black_box(&file))));
+        },
+    );
+}
+
+/// The sheet of a file, or `refused N`.
+fn sheet(file: &[u8]) -> String {
+    match read(file).and_then(|t| Ok(printed(&fast(&t).ok_or(8u32)?, &t.sizes))) {
+        Ok(text) => text,
+        Err(number) => format!("refused {number}\n"),
+    }
+}
+
+fn printed(rows: &[Limits; 8], sizes: &[u32; 8]) -> String {
+    let mut text = String::from("priority bound hold window size spare fill\n");
+    for (p, (row, &size)) in rows.iter().zip(sizes).enumerate() {
+        let spare = i64::from(size) - row.bound as i64;
+        text += &format!("{p} {} {} {} {size} {spare} ", row.bound, row.hold, row.window);
+        match size {
+            0 => text.push_str("-\n"),
+            _ => text += &format!("{}\n", (1_000 * row.bound).div_ceil(u64::from(size))),
+        }
+    }
+    text
+}
+
+fn byte_sum(text: &str) -> u64 {
+    text.bytes().map(u64::from).sum()
 }
 
 /// A large table whose eight holds all lie above 50,000: 147 links of priority 0, the others small, codes and jitters mixed.

@@ -6,7 +6,7 @@ use native.Mathlib.Omega.{arith}
 use lib.ListN.{length, getD, take, replicate}
 use lib.Seq.{take-all}
 use Rattle.model.specs.Bounds.{sizing}
-use Rattle.model.specs.TableFile.{Reading, readTable}
+use Rattle.model.specs.TableFile.{readTable}
 use Rattle.table_file.specs.declared.Reading.{Reading as ReadingRecord}
 use Rattle.table.specs.View.{viewTable}
 use Rattle.table_file.specs.Answers.{recordReading}

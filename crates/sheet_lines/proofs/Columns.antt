@@ -1,5 +1,5 @@
 -- The columns of a line, one behind another, and the most bytes that they have.
-use mathlib.Core.Path.{_≡_, refl, sym, ap, _∙_, subst⁻¹}
+use mathlib.Core.Path.{_≡_, sym, ap, _∙_, subst⁻¹}
 use mathlib.Core.List.{List, [], _++_, append-assoc, append-nil}
 use Prim.Native.Nat.{ℕ, _+_, _-_, _*_, _/_, _≤_}
 use native.Mathlib.Nat.{div-le-self}
@@ -14,7 +14,7 @@ use lib.ListN.{length, getD, length-append}
 use borrow.Author.Tests.{eq-eqb, ne-eqb, lt-ltb, le-ltb}
 use Rattle.model.specs.Sheet.{text, numeral, difference, fill, sheetLine, header}
 use Rattle.sheet_numerals.specs.declared.Text.{Text}
-use Rattle.sheet_numerals.specs.Fixed.{mostLine, recordText, Appended, signedNumeral}
+use Rattle.sheet_numerals.specs.Fixed.{recordText, Appended, signedNumeral}
 use Rattle.sheet_lines.specs.Lines.{column, columns, linesTo, tableLines}
 use Rattle.sheet_numerals.proofs.Appended.{put-text}
 use Rattle.sheet_numerals.proofs.Digits.{length-most, length-one}
@@ -42,14 +42,6 @@ fill-none bound size e = rw (eq-eqb size 0 e)
 pub fill-part : (bound size : ℕ) → (size ≡ 0 → ⊥) → numeral ((1_000 * bound + size - 1) / size) ≡ fill bound size
 unfolding fill
 fill-part bound size e = rw (ne-eqb size 0 e)
-
-pub length-fill : (bound size : ℕ) → bound ≤ 4_294_967_295 → size ≤ 4_294_967_295 → length (fill bound size) ≤ 13
-unfolding text
-length-fill bound size h k =
-    elim (ℕ-discrete size 0) [
-      | yes e ↦ rw (← fill-none bound size e) (omega arith)
-      | no e ↦ rw (← fill-part bound size e) (thirteen-digits ((1_000 * bound + size - 1) / size) (part-few bound size h k))
-    ]
 
 -- spare
 pub length-difference : (a b : ℕ) → a ≤ 4_294_967_295 → b ≤ 4_294_967_295 → length (difference a b) ≤ 11
@@ -79,7 +71,7 @@ spare-there size bound z h k e =
     (record { few = difference-few size bound h k; printed = difference-printed size bound; short = rw (difference-printed size bound) (length-difference size bound h k) })
 
 pub line-is : (priority bound hold window size : ℕ) →
-    columns priority bound hold window size ++ difference size bound ++ text " " ++ fill bound size ++ text "\n"
+    columns priority bound hold window size ++ (difference size bound ++ text " ") ++ (fill bound size ++ text "\n")
     ≡ sheetLine priority bound hold window size
 unfolding sheetLine
 line-is priority bound hold window size = simp append-assoc

@@ -1,9 +1,10 @@
 // Internal to the product: the lines of the sheet.
 use sheet_numerals::Text;
 ghost use mathlib.Core.Path.{_≡_};
+ghost use mathlib.Core.List.{_++_};
 ghost use Prim.Native.Nat.{_+_, _≤_};
 ghost use lib.IntN.{pos, _-ℤ_};
-ghost use Rattle.model.specs.Sheet.{numeral, difference, fill, sheetLine};
+ghost use Rattle.model.specs.Sheet.{text, numeral, difference, fill, sheetLine};
 ghost use Rattle.sheet_numerals.specs.Fixed.{textRoom, mostLine, recordText, Appended};
 ghost use Rattle.sheet_lines.specs.Lines.{column, columns, tableLines, refusalLine};
 
@@ -11,8 +12,7 @@ fn put_column(out: Text, n: u32) -> Text
     requires { ⌜ out .len + 11 ≤ textRoom ⌝ }
     ensures { λ r. ⌜ Appended out r (column n) × (r .len ≤ out .len + 11) ⌝ }
 {
-    let numbered = sheet_numerals::put_numeral(out, n as u64);
-    sheet_numerals::put(numbered, b" ")
+    sheet_numerals::put_number(out, n as u64, b' ')
 }
 
 // All columns before spare.
@@ -35,10 +35,10 @@ fn spare(size: u32, bound: u32) -> i64
 }
 
 fn put_spare(out: Text, size: u32, bound: u32) -> Text
-    requires { ⌜ out .len + 11 ≤ textRoom ⌝ }
-    ensures { λ r. ⌜ Appended out r (difference size bound) × (r .len ≤ out .len + 11) ⌝ }
+    requires { ⌜ out .len + 12 ≤ textRoom ⌝ }
+    ensures { λ r. ⌜ Appended out r (difference size bound ++ text " ") × (r .len ≤ out .len + 12) ⌝ }
 {
-    sheet_numerals::put_signed(out, spare(size, bound))
+    sheet_numerals::put_signed(out, spare(size, bound), b' ')
 }
 
 // 1000 × bound / size, rounded up.
@@ -51,13 +51,13 @@ fn per_mille(bound: u32, size: u32) -> u64
 }
 
 fn put_fill(out: Text, bound: u32, size: u32) -> Text
-    requires { ⌜ out .len + 13 ≤ textRoom ⌝ }
-    ensures { λ r. ⌜ Appended out r (fill bound size) × (r .len ≤ out .len + 13) ⌝ }
+    requires { ⌜ out .len + 14 ≤ textRoom ⌝ }
+    ensures { λ r. ⌜ Appended out r (fill bound size ++ text "\n") × (r .len ≤ out .len + 14) ⌝ }
 {
     if size == 0 {
-        return sheet_numerals::put(out, b"-");
+        return sheet_numerals::put(out, b"-\n");
     }
-    sheet_numerals::put_numeral(out, per_mille(bound, size))
+    sheet_numerals::put_number(out, per_mille(bound, size), b'\n')
 }
 
 fn put_line(out: Text, priority: u32, bound: u32, hold: u32, window: u32, size: u32) -> Text
@@ -66,9 +66,7 @@ fn put_line(out: Text, priority: u32, bound: u32, hold: u32, window: u32, size: 
 {
     let out = put_columns(out, priority, bound, hold, window, size);
     let out = put_spare(out, size, bound);
-    let out = sheet_numerals::put(out, b" ");
-    let out = put_fill(out, bound, size);
-    sheet_numerals::put(out, b"\n")
+    put_fill(out, bound, size)
 }
 
 // Each priority has its line, also where no link has that priority.
@@ -90,6 +88,5 @@ pub fn refusal_line(number: u32) -> Text
     ensures { λ r. ⌜ r ≡ recordText (refusalLine number) ⌝ }
 {
     let out = sheet_numerals::put(sheet_numerals::blank(), b"refused ");
-    let out = sheet_numerals::put_numeral(out, number as u64);
-    sheet_numerals::put(out, b"\n")
+    sheet_numerals::put_number(out, number as u64, b'\n')
 }

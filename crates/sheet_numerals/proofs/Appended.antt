@@ -9,7 +9,7 @@ use lib.Seq.{take-suc, take-all, length-take-le, take-append-seam, drop-append-a
 use Rattle.little_endian.specs.Output.{laid}
 use Rattle.little_endian.proofs.Laid.{length-laid, none-laid, laid-behind, stores-laid}
 use Rattle.sheet_numerals.specs.declared.Text.{Text}
-use Rattle.sheet_numerals.specs.Fixed.{textRoom, recordText, Appended}
+use Rattle.sheet_numerals.specs.Fixed.{textRoom, recordText, Appended, ended}
 
 -- ---- one byte more of a part
 pub none-put : (at : ℕ) (part out : List ℕ) → out ≡ laid at (take 0 part) out
@@ -41,6 +41,9 @@ then-put {t} {x} {y} {a} {b} n p q =
 
 pub same-put : {t x : Text} {a b : List ℕ} → Appended t x a → a ≡ b → Appended t x b
 same-put {t} {x} p e = subst (λ (l : List ℕ). Appended t x l) e p
+
+pub ended-len : {t x : Text} (l : List ℕ) (end : ℕ) → Appended t x (ended l end) → x .len ≡ t .len + length l + 1
+ended-len l end p = omega (arith, p .len, length-append l (end ∷ []))
 
 -- ---- a text and the zeros behind it
 drop-zeros : (k n : ℕ) → drop {A = ℕ} k (replicate n 0) ≡ replicate (n - k) 0

@@ -55,19 +55,19 @@ length-most (suc k) n h =
 stored-first : (l : List ℕ) (i v : ℕ) → i < length l → drop i (set l i v) ≡ v ∷ drop (suc i) l
 stored-first l i v h = rw (set-split l i v h) (drop-at (take i l) (v ∷ drop (suc i) l) i (length-take-le i l (omega arith)))
 
-module _ (n size : ℕ) (digits : List ℕ) (first higher : ℕ) (e : numeral n ≡ numeral higher ++ drop first digits) where
+module _ (shown digits : List ℕ) (first higher : ℕ) (e : shown ≡ numeral higher ++ drop first digits) where
   pub more-stored : 10 ≤ higher → 1 ≤ first → first ≤ length digits →
-      numeral n ≡ numeral (higher / 10) ++ drop (first - 1) (set digits (first - 1) (48 + higher % 10))
+      shown ≡ numeral (higher / 10) ++ drop (first - 1) (set digits (first - 1) (48 + higher % 10))
   more-stored h k l =
       let s : suc (first - 1) ≡ first = omega arith in
       e
       ∙ rw (last-digit higher h, stored-first digits (first - 1) (48 + higher % 10) (omega arith), s)
       (append-assoc (numeral (higher / 10)) ((48 + higher % 10) ∷ []) (drop first digits))
 
-  pub all-stored : higher < 10 → 1 ≤ first → first ≤ size → length digits ≡ size →
-      take (size - (first - 1)) (drop (first - 1) (set digits (first - 1) (48 + higher))) ≡ numeral n
-  all-stored h k l z =
+  pub all-stored : (size : ℕ) → higher < 10 → 1 ≤ first → first ≤ size → length digits ≡ size →
+      take (size - (first - 1)) (drop (first - 1) (set digits (first - 1) (48 + higher))) ≡ shown
+  all-stored size h k l z =
       let s : suc (first - 1) ≡ first = omega arith in
-      let whole : drop (first - 1) (set digits (first - 1) (48 + higher)) ≡ numeral n =
+      let whole : drop (first - 1) (set digits (first - 1) (48 + higher)) ≡ shown =
       sym (e ∙ rw (one-digit higher h, stored-first digits (first - 1) (48 + higher) (omega arith), s)) in
       take-all (size - (first - 1)) (drop (first - 1) (set digits (first - 1) (48 + higher))) (simp (length-drop, length-set) (omega arith)) ∙ whole

@@ -1,6 +1,6 @@
 -- A text in an array of fixed length.
 use mathlib.Core.Path.{_≡_}
-use mathlib.Core.List.{List, _++_}
+use mathlib.Core.List.{List, [], _∷_, _++_}
 use Prim.Native.Nat.{ℕ, suc, _+_, _-_, _*_, _≤_}
 use lib.ListN.{length, replicate}
 use lib.IntN.{ℤ, pos, negsuc}
@@ -27,6 +27,10 @@ pub record Appended (before after : Text) (part : List ℕ) : Type 0 where
   pub bytes : after .bytes ≡ laid (before .len) part (before .bytes)
   pub len : after .len ≡ before .len + length part
   pub fits : after .len ≤ textRoom
+
+-- a text and the byte behind it
+abbrev pub ended : List ℕ → ℕ → List ℕ
+ended l end = l ++ (end ∷ [])
 
 -- a signed number: '-' only below zero, no '+'
 unfoldable pub signedNumeral : ℤ → List ℕ

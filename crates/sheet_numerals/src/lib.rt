@@ -5,7 +5,7 @@ ghost use Prim.Native.Nat.{_+_, _≤_};
 ghost use lib.IntN.{natAbs};
 ghost use lib.ListN.{length};
 ghost use Rattle.model.specs.Sheet.{numeral};
-ghost use Rattle.sheet_numerals.specs.Fixed.{textRoom, recordText, Appended, signedNumeral};
+ghost use Rattle.sheet_numerals.specs.Fixed.{textRoom, recordText, Appended, ended, signedNumeral};
 
 // The most bytes of a line: 1 digit for the priority, 10 for each of four 32-bit numbers, 11 for spare, 13 for fill,
 // 6 blanks and the end.
@@ -43,12 +43,12 @@ pub fn put(out: Text, part: &[u8]) -> Text
     Text { bytes, len: at + i }
 }
 
-// The lowest digit is found first and stands last.
-pub fn put_numeral(out: Text, n: u64) -> Text
-    requires { ⌜ out .len + length (numeral n) ≤ textRoom ⌝ }
-    ensures { λ r. ⌜ Appended out r (numeral n) ⌝ }
+// A number and the byte behind it. The lowest digit is found first and stands last.
+pub fn put_number(out: Text, n: u64, end: u8) -> Text
+    requires { ⌜ out .len + length (numeral n) + 1 ≤ textRoom ⌝ }
+    ensures { λ r. ⌜ Appended out r (ended (numeral n) end) ⌝ }
 {
-    let mut digits = [0u8; 20];
+    let mut digits = [end; 21];
     let mut first: usize = 20;
     let mut higher = n;
     while 10 <= higher {
@@ -61,13 +61,13 @@ pub fn put_numeral(out: Text, n: u64) -> Text
     put(out, &digits[first..])
 }
 
-pub fn put_signed(out: Text, n: i64) -> Text
-    requires { ⌜ (natAbs n ≤ 4294967295) × (out .len + length (signedNumeral n) ≤ textRoom) ⌝ }
-    ensures { λ r. ⌜ Appended out r (signedNumeral n) ⌝ }
+pub fn put_signed(out: Text, n: i64, end: u8) -> Text
+    requires { ⌜ (natAbs n ≤ 4294967295) × (out .len + length (signedNumeral n) + 1 ≤ textRoom) ⌝ }
+    ensures { λ r. ⌜ Appended out r (ended (signedNumeral n) end) ⌝ }
 {
     if n < 0 {
         let signed = put(out, b"-");
-        return put_numeral(signed, (0 - n) as u64);
+        return put_number(signed, (0 - n) as u64, end);
     }
-    put_numeral(out, n as u64)
+    put_number(out, n as u64, end)
 }

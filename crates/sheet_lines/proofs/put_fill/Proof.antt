@@ -1,6 +1,9 @@
+use mathlib.Core.Path.{ap}
+use mathlib.Core.List.{List, _++_}
+use Prim.Native.Nat.{ℕ}
 use native.Mathlib.Omega.{arith}
-use Rattle.model.specs.Sheet.{text}
-use Rattle.sheet_numerals.proofs.Appended.{same-put}
+use Rattle.model.specs.Sheet.{text, numeral}
+use Rattle.sheet_numerals.proofs.Appended.{same-put, ended-len}
 use Rattle.sheet_lines.proofs.Columns.{fill-none, thirteen-digits}
 use borrow.Author.Needs.{needs}
 use Rattle.sheet_lines.proofs.put_fill.Statement.{statement}
@@ -16,18 +19,19 @@ returns : tie.Need-returns
 unfolding text
 returns c =
     let s = c .before .before .before in
-    (same-put (c .put .ensures) (fill-none (s .args .bound) (s .args .size) (c .before .before .if1 .taken)), omega arith)
+    (same-put (c .put .ensures) (ap (λ (l : List ℕ). l ++ text "\n") (fill-none (s .args .bound) (s .args .size) (c .before .before .if1 .taken))), omega arith)
 
 per-mille-requires : tie.Need-per-mille-requires
 per-mille-requires c κs = search needs
 
-put-numeral-requires : tie.Need-put-numeral-requires
-put-numeral-requires c κs = omega (arith, thirteen-digits (c .per-mille .result) (c .per-mille .ensures .1))
+put-number-requires : tie.Need-put-number-requires
+put-number-requires c κs = omega (arith, thirteen-digits (c .per-mille .result) (c .per-mille .ensures .1))
 
 returns-2 : tie.Need-returns-2
+unfolding text
 returns-2 c =
     let m = c .before .per-mille in
-    (same-put (c .put-numeral .ensures) (m .ensures .0), omega (arith, thirteen-digits (m .result) (m .ensures .1)))
+    (same-put (c .put-number .ensures) (ap (λ (l : List ℕ). l ++ text "\n") (m .ensures .0)), omega (arith, thirteen-digits (m .result) (m .ensures .1), ended-len (numeral (m .result)) 10 (c .put-number .ensures)))
 
 pub put-fill-spec : {M : Type 1} → statement M
 put-fill-spec =
@@ -37,5 +41,5 @@ put-fill-spec =
     put-requires
     returns
     per-mille-requires
-    put-numeral-requires
+    put-number-requires
     returns-2)

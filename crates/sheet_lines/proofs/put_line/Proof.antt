@@ -1,5 +1,4 @@
 use native.Mathlib.Omega.{arith}
-use Rattle.model.specs.Sheet.{text}
 use Rattle.sheet_numerals.proofs.Shape.{sized}
 use Rattle.sheet_numerals.proofs.Appended.{then-put, same-put}
 use Rattle.sheet_lines.proofs.Columns.{line-is}
@@ -13,40 +12,18 @@ put-columns-requires c κs = search needs
 put-spare-requires : tie.Need-put-spare-requires
 put-spare-requires c κs = search needs
 
-slice-aggregate-put : tie.Need-slice-aggregate-put
-slice-aggregate-put c = search needs
-
-put-requires : tie.Need-put-requires
-put-requires c κs = search needs
-
 put-fill-requires : tie.Need-put-fill-requires
 put-fill-requires c κs = search needs
 
-slice-aggregate-put-2 : tie.Need-slice-aggregate-put-2
-slice-aggregate-put-2 c = search needs
-
-put-requires-2 : tie.Need-put-requires-2
-put-requires-2 c κs = search needs
-
 returns : tie.Need-returns
-unfolding text
 returns c =
-    let s = c .before .before .before .before .before .before .before in
-    let n = sized (s .args .out) _ (s .good .0) in
-    let all =
-    then-put n (then-put n (then-put n (then-put n (c .before .before .before .before .before .before .put-columns .ensures .0) (c .before .before .before .before .before .put-spare .ensures .0)) (c .before .before .before .put .ensures)) (c .before .before .put-fill .ensures .0))
-    (c .put2 .ensures) in
-    (same-put all (line-is (s .args .priority) (s .args .bound) (s .args .hold) (s .args .window) (s .args .size)), omega arith)
+    let s = c .before .before .before in
+    let n = sized (s .args .out) _ (s .good .0) in (
+      same-put (then-put n (then-put n (c .before .before .put-columns .ensures .0) (c .before .put-spare .ensures .0)) (c .put-fill .ensures .0))
+          (line-is (s .args .priority) (s .args .bound) (s .args .hold) (s .args .window) (s .args .size)),
+      omega arith,
+    )
 
 pub put-line-spec : {M : Type 1} → statement M
 put-line-spec =
-    tie.close
-    (tie.spec
-    put-columns-requires
-    put-spare-requires
-    slice-aggregate-put
-    put-requires
-    put-fill-requires
-    slice-aggregate-put-2
-    put-requires-2
-    returns)
+    tie.close (tie.spec put-columns-requires put-spare-requires put-fill-requires returns)

@@ -1,6 +1,6 @@
 use mathlib.Core.List.{[]}
 use native.Mathlib.Omega.{arith}
-use Rattle.model.specs.Sheet.{text, numeral}
+use Rattle.model.specs.Sheet.{text}
 use Rattle.sheet_numerals.proofs.Appended.{text-len, put-text}
 use Rattle.sheet_lines.proofs.Columns.{ten-digits}
 use borrow.Author.Needs.{needs}
@@ -16,30 +16,18 @@ slice-aggregate-put c = search needs
 put-requires : tie.Need-put-requires
 put-requires c κs = omega (arith, text-len (c .before .blank .result) [] (c .before .blank .ensures))
 
-put-numeral-requires : tie.Need-put-numeral-requires
-put-numeral-requires c κs = omega (arith, text-len (c .before .before .blank .result) [] (c .before .before .blank .ensures), ten-digits (c .before .before .before .args .number) (omega arith))
-
-slice-aggregate-put-2 : tie.Need-slice-aggregate-put-2
-slice-aggregate-put-2 c = search needs
-
-put-requires-2 : tie.Need-put-requires-2
-put-requires-2 c κs = omega (arith, text-len (c .before .before .before .before .blank .result) [] (c .before .before .before .before .blank .ensures), ten-digits (c .before .before .before .before .before .args .number) (omega arith))
+put-number-requires : tie.Need-put-number-requires
+put-number-requires c κs =
+    let s = c .before .before .before in
+    omega (arith, text-len (c .before .before .blank .result) [] (c .before .before .blank .ensures), ten-digits (s .args .number) (omega arith))
 
 returns : tie.Need-returns
 unfolding text
 returns c =
-    let start = put-text (c .before .before .before .before .before .blank .result) (c .before .before .before .put .result) [] (text "refused ") (c .before .before .before .before .before .blank .ensures) (c .before .before .before .put .ensures) in
-    let numbered = put-text (c .before .before .before .put .result) (c .before .before .put-numeral .result) (text "refused ") (numeral (c .before .before .before .before .before .before .args .number)) start (c .before .before .put-numeral .ensures) in
-    put-text (c .before .before .put-numeral .result) (c .put2 .result) _ (text "\n") numbered (c .put2 .ensures)
+    let start = c .before .before .before .blank in
+    let refused = put-text (start .result) (c .before .put .result) [] (text "refused ") (start .ensures) (c .before .put .ensures) in
+    put-text (c .before .put .result) (c .put-number .result) (text "refused ") _ refused (c .put-number .ensures)
 
 pub refusal-line-spec : {M : Type 1} → statement M
 refusal-line-spec =
-    tie.close
-    (tie.spec
-    blank-requires
-    slice-aggregate-put
-    put-requires
-    put-numeral-requires
-    slice-aggregate-put-2
-    put-requires-2
-    returns)
+    tie.close (tie.spec blank-requires slice-aggregate-put put-requires put-number-requires returns)

@@ -1,22 +1,23 @@
-use mathlib.Core.Path.{_≡_, refl, sym}
-use mathlib.Core.List.{_++_, append-nil}
+use mathlib.Core.Path.{_≡_, refl}
+use mathlib.Core.List.{_++_}
 use Prim.Native.Nat.{_+_, _-_, _≤_}
 use native.Mathlib.Omega.{arith}
-use lib.ListN.{length, drop, length-set}
+use lib.ListN.{length, drop, length-set, length-append}
 use Rattle.model.specs.Sheet.{numeral}
+use Rattle.sheet_numerals.specs.Fixed.{ended}
 use Rattle.sheet_numerals.proofs.Appended.{same-put}
 use Rattle.sheet_numerals.proofs.Digits.{length-most, length-least, length-last, more-stored, all-stored}
-use Rattle.sheet_numerals.proofs.put_numeral.Statement.{statement}
-use Rattle.sheet_numerals.proofs.put_numeral.Tie as tie
+use Rattle.sheet_numerals.proofs.put_number.Statement.{statement}
+use Rattle.sheet_numerals.proofs.put_number.Tie as tie
 
 abbrev Inv-loop : tie.InvT-loop
-Inv-loop out n digits₀ first₀ higher₀ digits first higher = (first ≤ 20) × (length digits ≡ 20) × (length (numeral higher) ≤ first) × (numeral n ≡ numeral higher ++ drop first digits)
+Inv-loop out n end digits₀ first₀ higher₀ digits first higher = (first ≤ 20) × (length digits ≡ 21) × (length (numeral higher) ≤ first) × (ended (numeral n) end ≡ numeral higher ++ drop first digits)
 
 abbrev μ-loop : tie.MeasureT-loop
-μ-loop out n digits₀ first₀ higher₀ digits first higher = first
+μ-loop out n end digits₀ first₀ higher₀ digits first higher = first
 
 loop-holds : tie.Need-loop-holds Inv-loop μ-loop
-loop-holds c = (omega arith, refl, length-most 19 (c .args .n) (omega arith), sym (append-nil (numeral (c .args .n))))
+loop-holds c = (omega arith, refl, length-most 19 (c .args .n) (omega arith), refl)
 
 sub-first : tie.Need-sub-first Inv-loop μ-loop
 sub-first c = omega (arith, length-least (c .before .loop .higher))
@@ -37,7 +38,7 @@ loop-again : tie.Need-loop-again Inv-loop μ-loop
 loop-again c =
     let inv = c .before .loop .inv in
     let more = length-last (c .before .loop .higher) (omega arith) in
-    (omega arith, simp length-set (omega arith), omega arith, more-stored (c .before .before .args .n) 20 (c .before .loop .digits) (c .before .loop .first) (c .before .loop .higher) (inv .3) (omega arith) (omega arith) (omega arith))
+    (omega arith, simp length-set (omega arith), omega arith, more-stored _ (c .before .loop .digits) (c .before .loop .first) (c .before .loop .higher) (inv .3) (omega arith) (omega arith) (omega arith))
 
 sub-first-2 : tie.Need-sub-first-2 Inv-loop μ-loop
 sub-first-2 c = omega (arith, length-least (c .before .loop .higher))
@@ -64,20 +65,20 @@ put-requires : tie.Need-put-requires Inv-loop μ-loop
 put-requires c κs =
     let some = length-least (c .before .before .before .loop .higher) in
     let whole =
-    all-stored (c .before .before .before .before .args .n) 20 (c .before .before .before .loop .digits) (c .before .before .before .loop .first)
-    (c .before .before .before .loop .higher) (c .before .before .before .loop .inv .3) (omega arith) (omega arith) (omega arith) (omega arith) in
-    rw whole (c .before .before .before .before .pre)
+    all-stored _ (c .before .before .before .loop .digits) (c .before .before .before .loop .first)
+    (c .before .before .before .loop .higher) (c .before .before .before .loop .inv .3) 21 (omega arith) (omega arith) (omega arith) (omega arith) in
+    rw (whole, length-append) (omega arith)
 
 returns : tie.Need-returns Inv-loop μ-loop
 returns c =
     let some = length-least (c .before .before .before .before .loop .higher) in
     let whole =
-    all-stored (c .before .before .before .before .before .args .n) 20 (c .before .before .before .before .loop .digits) (c .before .before .before .before .loop .first)
-    (c .before .before .before .before .loop .higher) (c .before .before .before .before .loop .inv .3) (omega arith) (omega arith) (omega arith) (omega arith) in
+    all-stored _ (c .before .before .before .before .loop .digits) (c .before .before .before .before .loop .first)
+    (c .before .before .before .before .loop .higher) (c .before .before .before .before .loop .inv .3) 21 (omega arith) (omega arith) (omega arith) (omega arith) in
     same-put (c .put .ensures) whole
 
-pub put-numeral-spec : {M : Type 1} → statement M
-put-numeral-spec =
+pub put-number-spec : {M : Type 1} → statement M
+put-number-spec =
     tie.close
     (tie.spec
     Inv-loop
