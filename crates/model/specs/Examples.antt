@@ -1,4 +1,4 @@
--- The ten marked examples of the paper, a to j, and ours, k to w, and the words of demand 3 on them, as one list.
+-- The ten marked examples of the paper, a to j, and ours: k to w, windows, whole answers and sheets, and the words of demand 3, as one list.
 use mathlib.Core.Path.{_≡_}
 use mathlib.Core.List.{List, [], _∷_, _++_, map, reverse}
 use Prim.Native.Nat.{ℕ, zero, suc, _+_, _-_}
