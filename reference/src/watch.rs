@@ -1,4 +1,5 @@
-//! Demand 3, watched: "The words of demand 3 go by the reports and their answers."
+//! Demand 3, watched: "The words of demand 3 go by the reports and their answers." And windows: no buffer is as full as its
+//! bound sooner than its window after a quiet moment.
 
 use crate::bounds::Bounds;
 use crate::port::{Answer, Frame, Port, Report, DROPPED, FILTERED, POLICED, STORED};
@@ -19,6 +20,8 @@ pub struct Watch<'a> {
     held: Vec<Frame>,
     /// "What it has held are these sums at the start, where they are 0, and after each report": the most.
     most: [u64; 8],
+    /// For each p the last quiet tick: no frame of priority 0 to p was held then, or before an arrival at it.
+    quiet: [u64; 8],
     /// For each link, the ticks of "its frames in accepted reports that the filter lets through, in order".
     ticks: Vec<Vec<u64>>,
 }
@@ -26,7 +29,7 @@ pub struct Watch<'a> {
 impl<'a> Watch<'a> {
     pub fn new(table: &'a Table, bounds: &'a Bounds) -> Watch<'a> {
         let ticks = vec![Vec::new(); table.count as usize];
-        Watch { table, bounds, held: Vec::new(), most: [0; 8], ticks }
+        Watch { table, bounds, held: Vec::new(), most: [0; 8], quiet: [0; 8], ticks }
     }
 
     fn place(&self, number: u64) -> Option<usize> {
@@ -41,6 +44,12 @@ impl<'a> Watch<'a> {
         self.held.iter().filter(|frame| self.priority(frame.number) == Some(p)).copied().collect()
     }
 
+    /// Nothing comes or goes at this tick before now.
+    fn look(&mut self, tick: u64) {
+        let highest = self.held.iter().filter_map(|frame| self.priority(frame.number)).min().unwrap_or(8);
+        self.quiet[..highest].fill(tick);
+    }
+
     /// Takes one more report, and says what it breaks.
     pub fn take(&mut self, entry: &Entry) -> Result<(), String> {
         // "A report is accepted if it is not refused."
@@ -50,13 +59,14 @@ impl<'a> Watch<'a> {
         for departure in &entry.departures {
             self.leave(departure)?;
         }
+        self.look(entry.report.tick);
         self.arrive(&entry.report, answer.verdict)?;
         self.holds(entry.report.tick)
     }
 
     /// "its departures come first: each takes away the oldest held frame of its number"
     fn leave(&mut self, departure: &[u64; 3]) -> Result<(), String> {
-        let [number, length, _] = *departure;
+        let [number, length, freed] = *departure;
         let Some(at) = self.held.iter().position(|frame| frame.number == number) else {
             return Err(format!("a frame of {number} left, and none was held"));
         };
@@ -64,6 +74,7 @@ impl<'a> Watch<'a> {
         if frame.length != length {
             return Err(format!("a frame of {number} left with {length} bytes, and had {}", frame.length));
         }
+        self.look(freed);
         Ok(())
     }
 
@@ -107,6 +118,11 @@ impl<'a> Watch<'a> {
             if bytes > self.bounds.bounds[p] {
                 return Err(format!("priority {p} holds {bytes} at {tick}"));
             }
+            if bytes > 0 && bytes == self.bounds.bounds[p] && tick < self.quiet[p] + self.bounds.windows[p] {
+                return Err(format!(
+                    "priority {p} holds {bytes}, its bound, at {tick}, sooner than its window"
+                ));
+            }
             if frames.iter().any(|frame| tick >= frame.arrival + self.bounds.holds[p]) {
                 return Err(format!("priority {p} holds a frame for too long at {tick}"));
             }
@@ -145,6 +161,7 @@ fn keeps(link: &Link, ticks: &[u64]) -> bool {
 mod tests {
     use super::*;
     use crate::bounds::bounds;
+    use crate::cases::make::table_of;
     use crate::examples::{link, table_e};
     use crate::port::Arrival;
 
@@ -193,6 +210,22 @@ mod tests {
         assert!(watched(&table_e(), &keeping).is_err());
         let breaking = [first(), entry(13_499, 1, 500, POLICED, &[[1, 500, 1_500]])];
         assert!(watched(&table_e(), &breaking).is_ok());
+    }
+
+    /// With jitter 12,001 the bound is 999, first reached 499 ticks after a quiet moment.
+    #[test]
+    fn a_window_is_watched() {
+        let late = Link { jitter: 12_001, ..link(1, 0, 0, 500) };
+        let table = table_of(1, &[late], [999, 0, 0, 0, 0, 0, 0, 0]);
+        let first = || entry(1_000, 1, 500, STORED, &[]);
+        assert!(watched(&table, &[first(), entry(1_499, 1, 499, STORED, &[])]).is_ok());
+        assert!(watched(&table, &[first(), entry(1_498, 1, 499, STORED, &[])]).is_err());
+        let after_quiet = |tick| {
+            let left = [[1, 500, 1_500]];
+            [first(), entry(20_000, 1, 500, STORED, &left), entry(tick, 1, 499, STORED, &[])]
+        };
+        assert!(watched(&table, &after_quiet(20_499)).is_ok());
+        assert!(watched(&table, &after_quiet(20_498)).is_err());
     }
 
     #[test]
