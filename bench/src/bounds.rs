@@ -2,7 +2,6 @@
 
 use crate::measure::{compare, once};
 use crate::table::{file_of, read, Link, Table};
-use std::cmp::Reverse;
 use std::hint::black_box;
 
 extern "C" {
@@ -81,11 +80,14 @@ fn literal(t: &Table) -> Option<[Limits; 8]> {
         let b = longest(t, p + 1, 7).saturating_sub(1);
         row.hold = (1..=65_536).find(|w| b + arrivals(t, 0, p, w - 1, frames) <= *w)?;
         let m = longest(t, p, p);
-        let amount = |w: u64| arrivals(t, p, p, w, frames).min(arrivals(t, 0, p, w, frames) - w.saturating_sub(b) + m - 1);
-        if m > 0 {
-            // Of equal amounts the one of the smallest w is the greatest.
-            let (bound, Reverse(window)) = (0..row.hold).map(|w| (amount(w), Reverse(w))).max()?;
-            (row.bound, row.window) = (bound, window);
+        if m == 0 {
+            continue;
+        }
+        for w in 0..row.hold {
+            let amount = arrivals(t, p, p, w, frames).min(arrivals(t, 0, p, w, frames) - w.saturating_sub(b) + m - 1);
+            if amount > row.bound {
+                (row.bound, row.window) = (amount, w);
+            }
         }
     }
     Some(rows)
