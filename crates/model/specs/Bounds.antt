@@ -5,7 +5,7 @@ use mathlib.Core.List.{List, [], _∷_, _++_}
 use Prim.Native.Nat.{ℕ, zero, suc, _+_, _-_, min}
 use lib.Dec.{eqb, leb, ltb}
 use lib.ListN.{replicate}
-use Rattle.model.specs.Basics.{greatestTo, allTo, firstFrom, eight, Check, check, firstMet}
+use Rattle.model.specs.Basics.{greatestTo, allTo, firstFrom, eight, check, firstMet}
 use Rattle.model.specs.Units.{occupied}
 use Rattle.model.specs.Link.{VirtualLink, anyOf, greatestOver}
 use Rattle.model.specs.Table.{Table, tableChecks}
