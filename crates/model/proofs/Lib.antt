@@ -47,8 +47,11 @@ pub mod FitKept
 pub mod Levels
 pub mod Demand
 pub mod Later
+-- ---- networks A and B
+pub mod Redundancy
 -- ---- the examples, and all theorems under their names
 pub mod Examples
 pub mod ClauseExamples
 pub mod ClimbedExamples
+pub mod RedundancyExamples
 pub mod Theorems

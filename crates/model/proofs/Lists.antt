@@ -1,10 +1,10 @@
 -- Lists made of a function.
 use mathlib.Core.Path.{_≡_, refl}
-use mathlib.Core.List.{List, [], _∷_, flatMap}
+use mathlib.Core.List.{List, [], _∷_, _++_, flatMap}
 use Prim.Native.Nat.{ℕ, zero, suc, _*_, _<_}
 use native.Mathlib.Omega.{arith}
 use lib.ListN.{length, getD, length-append}
-use Rattle.model.specs.Basics.{eight}
+use Rattle.model.specs.Basics.{eight, Each, done, also}
 
 -- f 0, .., f (n − 1): at 8 this is eight f
 abbrev pub listTo {ℓ} : {A : Type ℓ} → (ℕ → A) → ℕ → List A
@@ -23,3 +23,7 @@ pub length-flatMap {ℓ κ} : {A : Type ℓ} {B : Type κ} (f : A → List B) (k
 unfolding flatMap
 length-flatMap f k each [] = omega arith
 length-flatMap f k each (x ∷ l) = rw length-append (omega (arith, each x, length-flatMap f k each l))
+
+pub each-of-both : {A : Type 0} {P : A → Type 0} {l m : List A} → Each P l → Each P m → Each P (l ++ m)
+each-of-both done more = more
+each-of-both (also x rest) more = also x (each-of-both rest more)

@@ -12,6 +12,7 @@ use lib.Seq.{getD-set-same, getD-set-other}
 use Rattle.model.specs.Basics.{sumTo, further, Each, done, also}
 use Rattle.model.specs.Machine.{Frame, blankFrame, queueOf, highestWaiting, bytes}
 use Rattle.model.specs.Promises.{Weight}
+use Rattle.model.proofs.Lists.{each-of-both}
 
 -- the sum of the lengths
 abbrev pub wireBytes : List Frame → ℕ
@@ -58,8 +59,7 @@ each-tail done = done
 each-tail (also p e) = e
 
 pub each-snoc : {P : Frame → Type 0} {l : List Frame} (f : Frame) → Each P l → P f → Each P (l ++ (f ∷ []))
-each-snoc f done q = also q done
-each-snoc f (also p e) q = also p (each-snoc f e q)
+each-snoc f e q = each-of-both e (also q done)
 
 pub each-head : {P : Frame → Type 0} {l : List Frame} → Each P l → 0 < length l → P (getD l 0 blankFrame)
 each-head done k = absurd (omega arith)

@@ -1,6 +1,7 @@
 -- The theorems of specs/Promises.antt and specs/Examples.antt, each under its name.
 use Rattle.model.specs.Basics.{also}
-use Rattle.model.specs.Promises.{ReadsWritten, WritesRead, FileLength, DemandThree, NeverUnfit, FitnessKept, LengthsKept, CurveGrows, HoldIsSmallest, HoldGrows, BoundIsGreatest, NoneAppears, DeparturesInTime, DeparturesSpaced, PassedKeep, DigitsRead, DigitsWritten}
+use Rattle.model.proofs.Lists.{each-of-both}
+use Rattle.model.specs.Promises.{ReadsWritten, WritesRead, FileLength, DemandThree, NeverUnfit, FitnessKept, LengthsKept, CurveGrows, HoldIsSmallest, HoldGrows, BoundIsGreatest, NoneAppears, DeparturesInTime, DeparturesSpaced, PassedKeep, DigitsRead, DigitsWritten, AmongByDistance, OneOfTwo, SelectedAlways}
 use Rattle.model.specs.Examples.{ExamplesCorrect}
 use Rattle.model.proofs.Digits as Digits
 use Rattle.model.proofs.ReadBack as ReadBack
@@ -12,9 +13,11 @@ use Rattle.model.proofs.Fitness as Fitness
 use Rattle.model.proofs.FitKept as FitKept
 use Rattle.model.proofs.Demand as Demand
 use Rattle.model.proofs.Later as Later
+use Rattle.model.proofs.Redundancy as Redundancy
 use Rattle.model.proofs.Examples as shown
 use Rattle.model.proofs.ClauseExamples as told
 use Rattle.model.proofs.ClimbedExamples as climbed
+use Rattle.model.proofs.RedundancyExamples as selected
 
 pub reads-written : ReadsWritten
 reads-written = ReadBack.read-written
@@ -67,9 +70,19 @@ digits-read base width n h = (Digits.length-digits base width n, Digits.all-digi
 pub digits-written : DigitsWritten
 digits-written base digits all = (Digits.from-below base digits all, Digits.to-from base digits all)
 
+pub among-by-distance : AmongByDistance
+unfolding Redundancy.near Redundancy.ahead
+among-by-distance = Redundancy.among-near
+
+pub one-of-two : OneOfTwo
+one-of-two = Redundancy.one-of-two
+
+pub selected-always : SelectedAlways
+selected-always = Redundancy.selected-always
+
 pub examples-correct : ExamplesCorrect
 examples-correct =
     also shown.a (also shown.b (also shown.c (also shown.d (also shown.e (also shown.f (also shown.g (also shown.h (also climbed.i (also climbed.j (also shown.k (also shown.l
     (also shown.m (also shown.n (also shown.o (also shown.p (also shown.q (also shown.r (also shown.s (also shown.t (also shown.u (also shown.v (also shown.w
     (also climbed.sizingE (also shown.windowK (also shown.windowP (also shown.windowO0 (also shown.windowO1 (also shown.windowNt0 (also shown.windowNt3 (also climbed.sizingNt
-    (also climbed.sheetE (also climbed.sheetNt told.words-correct))))))))))))))))))))))))))))))))
+    (also climbed.sheetE (also climbed.sheetNt (each-of-both told.words-correct selected.selections-correct)))))))))))))))))))))))))))))))))

@@ -1,4 +1,5 @@
--- The ten marked examples of the paper, a to j, and ours: k to w, windows, whole answers and sheets, and the words of demand 3, as one list.
+-- The ten marked examples of the paper, a to j, and ours: k to w, windows, whole answers and sheets, the words of demand 3, and networks A
+-- and B, as one list.
 use mathlib.Core.Path.{_≡_}
 use mathlib.Core.List.{List, [], _∷_, _++_, map, reverse}
 use Prim.Native.Nat.{ℕ, zero, suc, _+_, _-_}
@@ -13,6 +14,7 @@ use Rattle.model.specs.Machine.{Frame}
 use Rattle.model.specs.Report.{Report, wait, frame, Answer, Call, arrived}
 use Rattle.model.specs.Sheet.{text, sheet}
 use Rattle.model.specs.Run.{Entry, run, storedBy, policedBy, droppedBy, passedBy, throughBy, heldOf, mostHeld, ticksOf, LinkKeeps}
+use Rattle.model.specs.RedundancyExamples.{Recording, repliesTo, recordings}
 
 -- the answer of a call, and the list as it left it
 pub record Outcome : Type 0 where
@@ -51,6 +53,8 @@ pub data Example : Type 0 where
   gives-bags : List ℕ → Example
   -- a table with its printed sheet
   gives-sheet : Table → String → Example
+  -- calls with what waits on A and B, with what comes of each
+  selects : Recording → Example
 
 -- the log of calls in order, the latest first
 abbrev pub logOf : Table → List Call → List Entry
@@ -88,6 +92,7 @@ Correct (keeps t calls i) = LinkKeeps (linkAt (t .links) i) (logOf t calls)
 Correct (breaks t calls i) = LinkKeeps (linkAt (t .links) i) (logOf t calls) → ⊥
 Correct (gives-bags bags) = eight bagOf ≡ bags
 Correct (gives-sheet t printed) = sheet (tableBytes t) ≡ text printed
+Correct (selects r) = repliesTo (r .skew) (r .calls) ≡ r .replies
 
 -- ---- shorthand: number, line, priority, greatest length; "All codes and jitter 0 unless named"
 abbrev pub plain : ℕ → ℕ → ℕ → ℕ → VirtualLink
@@ -432,10 +437,13 @@ abbrev pub words : List Example
 words =
     heldD0 ∷ heldD1 ∷ heldR1 ∷ heldN0 ∷ heldV0 ∷ fatesE ∷ fatesF ∷ fatesN ∷ fatesP ∷ fatesQ ∷ fatesV ∷ fatesW ∷ keepsF ∷ keepsV ∷ breaksE ∷ breaksW ∷ []
 
+abbrev pub selections : List Example
+selections = map selects recordings
+
 abbrev pub examples : List Example
 examples =
     a ∷ b ∷ c ∷ d ∷ e ∷ f ∷ g ∷ h ∷ i ∷ j ∷ k ∷ l ∷ m ∷ n ∷ o ∷ p ∷ q ∷ r ∷ s ∷ t ∷ u ∷ v ∷ w
-    ∷ sizingE ∷ windowK ∷ windowP ∷ windowO0 ∷ windowO1 ∷ windowNt0 ∷ windowNt3 ∷ sizingNt ∷ sheetE ∷ sheetNt ∷ words
+    ∷ sizingE ∷ windowK ∷ windowP ∷ windowO0 ∷ windowO1 ∷ windowNt0 ∷ windowNt3 ∷ sizingNt ∷ sheetE ∷ sheetNt ∷ (words ++ selections)
 
 abbrev pub ExamplesCorrect : Type 0
 ExamplesCorrect = Each Correct examples

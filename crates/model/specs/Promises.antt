@@ -1,10 +1,10 @@
 -- The theorems, each as a statement. proofs/Theorems.antt proves each under the same name in lower case.
 use mathlib.Core.Path.{_≡_}
-use mathlib.Core.Bool.{Bool, true, false, cond}
+use mathlib.Core.Bool.{Bool, true, false, cond, _&&_, not}
 use mathlib.Core.Option.{Option, none, some}
 use mathlib.Core.List.{List, [], _∷_, _++_}
-use Prim.Native.Nat.{ℕ, _+_, _-_, _^_, _≤_, _<_}
-use lib.Dec.{eqb}
+use Prim.Native.Nat.{ℕ, _+_, _-_, _%_, _^_, _≤_, _<_}
+use lib.Dec.{eqb, leb}
 use lib.ListN.{length, getD}
 use Rattle.model.specs.Link.{VirtualLink, linkAt, anyOf}
 use Rattle.model.specs.Table.{Table, tableRefusal}
@@ -17,6 +17,8 @@ use Rattle.model.specs.Port.{Port}
 use Rattle.model.specs.Fitness.{fit}
 use Rattle.model.specs.Report.{Call, step}
 use Rattle.model.specs.Run.{Entry, run, passedBy, departuresBy, without, heldFrames, hasPriority, ticksOf, KeepBagAndJitter, Always, Demand3}
+use Rattle.model.specs.Redundancy.{State, Presented, among, handsOn, howMany, Copies, Selected}
+use Rattle.model.specs.Redundancy as redundancy
 
 -- Demand 2: "The table file reads and writes by the layout, each undoing the other"
 abbrev pub ReadsWritten : Type 0
@@ -141,3 +143,18 @@ DigitsRead = (base width n : ℕ) → n < base ^ width
 abbrev pub DigitsWritten : Type 0
 DigitsWritten = (base : ℕ) (digits : List ℕ) → AllDigits base digits
     → (fromDigits base digits < base ^ length digits) × (digitsOf base (length digits) (fromDigits base digits) ≡ digits)
+
+-- ---- networks A and B
+
+-- n is one of the k numbers after m exactly if it is not 0 and 1 to k ahead of m, round a cycle of 255, for all sequence numbers
+abbrev pub AmongByDistance : Type 0
+AmongByDistance = (k m n : ℕ) → k < 255 → m < 256 → n < 256
+    → among k m n ≡ (not (eqb n 0) && leb 1 ((n + 255 - m) % 255) && leb ((n + 255 - m) % 255) k)
+
+-- "yields at most one frame, and exactly one if the first copy was handed on", from any state
+abbrev pub OneOfTwo : Type 0
+OneOfTwo = (s s' : State) (e e' : redundancy.Entry) → Copies s s' e e' → (howMany e e' ≤ 1) × (handsOn e ≡ true → howMany e e' ≡ 1)
+
+-- for every list of calls from a fresh state: parts are frames without their last byte, in order of their ticks; no refusal changes the state
+abbrev pub SelectedAlways : Type 0
+SelectedAlways = (skew : ℕ) (calls : List Presented) → Selected skew (redundancy.run skew calls)
