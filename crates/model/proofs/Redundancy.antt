@@ -42,8 +42,8 @@ following-is : (m : ℕ) → m < 256 → following m ≡ m % 255 + 1
 unfolding following
 following-is m h =
     elim (ℕ-discrete m 255) [
-      yes e ↦ rw (eq-eqb m 255 e) (omega arith)
-    | no d ↦ rw (ne-eqb m 255 d) (omega arith)
+      | yes e ↦ rw (eq-eqb m 255 e) (omega arith)
+      | no d ↦ rw (ne-eqb m 255 d) (omega arith)
     ]
 
 -- one step on, n is one less far ahead
@@ -67,17 +67,17 @@ one-ahead m hm = omega arith
 near-on : (k m n : ℕ) → k < 254 → m < 256 → n < 256 → (n ≡ m % 255 + 1 → ⊥) → near n (ahead (m % 255 + 1) n) k ≡ near n (ahead m n) (suc k)
 near-on k m n hk hm hn other =
     elim (decLe 1 n) [
-      no z ↦ zero-far n (ahead (m % 255 + 1) n) k (omega arith) ∙ sym (zero-far n (ahead m n) (suc k) (omega arith))
-    | yes h ↦ elim (decLe 1 (ahead m n)) [
-        no z ↦ (let r = ahead-round m n hm hn (omega arith) h in
-          too-far n (ahead (m % 255 + 1) n) k h (omega arith) (omega arith) ∙ sym (same-far n (ahead m n) (suc k) h (omega arith)))
-      | yes h1 ↦ (
-        let l = ahead-less m n hm hn h1 in
-        let two : 2 ≤ ahead m n = elim (ℕ-discrete (ahead m n) 1) [ yes e ↦ absurd (other (ahead-one m n hm hn h e)) | no e ↦ omega arith ] in
-        elim (decLe (ahead m n) (suc k)) [
-          yes g ↦ near-true n (ahead (m % 255 + 1) n) k h (omega arith) (omega arith) ∙ sym (near-true n (ahead m n) (suc k) h h1 g)
-        | no g ↦ too-far n (ahead (m % 255 + 1) n) k h (omega arith) (omega arith) ∙ sym (too-far n (ahead m n) (suc k) h h1 (omega arith))
-        ])
+      | no z ↦ zero-far n (ahead (m % 255 + 1) n) k (omega arith) ∙ sym (zero-far n (ahead m n) (suc k) (omega arith))
+      | yes h ↦ elim (decLe 1 (ahead m n)) [
+        | no z ↦ (let r = ahead-round m n hm hn (omega arith) h in
+            too-far n (ahead (m % 255 + 1) n) k h (omega arith) (omega arith) ∙ sym (same-far n (ahead m n) (suc k) h (omega arith)))
+        | yes h1 ↦ (
+            let l = ahead-less m n hm hn h1 in
+            let two : 2 ≤ ahead m n = elim (ℕ-discrete (ahead m n) 1) [ yes e ↦ absurd (other (ahead-one m n hm hn h e)) | no e ↦ omega arith ] in
+            elim (decLe (ahead m n) (suc k)) [
+              | yes g ↦ near-true n (ahead (m % 255 + 1) n) k h (omega arith) (omega arith) ∙ sym (near-true n (ahead m n) (suc k) h h1 g)
+              | no g ↦ too-far n (ahead (m % 255 + 1) n) k h (omega arith) (omega arith) ∙ sym (too-far n (ahead m n) (suc k) h h1 (omega arith))
+            ])
       ]
     ]
 
@@ -85,14 +85,14 @@ pub among-near : (k m n : ℕ) → k < 255 → m < 256 → n < 256 → among k m
 unfolding among
 among-near zero m n hk hm hn =
     elim (decLe 1 n) [
-      no z ↦ sym (zero-far n (ahead m n) 0 (omega arith))
-    | yes h ↦ elim (decLe 1 (ahead m n)) [ yes h1 ↦ sym (too-far n (ahead m n) 0 h h1 (omega arith)) | no z ↦ sym (same-far n (ahead m n) 0 h (omega arith)) ]
+      | no z ↦ sym (zero-far n (ahead m n) 0 (omega arith))
+      | yes h ↦ elim (decLe 1 (ahead m n)) [ yes h1 ↦ sym (too-far n (ahead m n) 0 h h1 (omega arith)) | no z ↦ sym (same-far n (ahead m n) 0 h (omega arith)) ]
     ]
 among-near (suc k) m n hk hm hn =
     rw (following-is m hm)
     (elim (ℕ-discrete n (m % 255 + 1)) [
-      yes e ↦ rw (eq-eqb n (m % 255 + 1) e) (sym (near-true n (ahead m n) (suc k) (omega arith) (one-away m n hm e .0) (one-away m n hm e .1)))
-    | no d ↦ rw (ne-eqb n (m % 255 + 1) d) (among-near k (m % 255 + 1) n (omega arith) (omega arith) hn ∙ near-on k m n (omega arith) hm hn d)
+      | yes e ↦ rw (eq-eqb n (m % 255 + 1) e) (sym (near-true n (ahead m n) (suc k) (omega arith) (one-away m n hm e .0) (one-away m n hm e .1)))
+      | no d ↦ rw (ne-eqb n (m % 255 + 1) d) (among-near k (m % 255 + 1) n (omega arith) (omega arith) hn ∙ near-on k m n (omega arith) hm hn d)
     ])
   where
     one-away : (m n : ℕ) → m < 256 → n ≡ m % 255 + 1 → (1 ≤ ahead m n) × (ahead m n ≤ suc k)
@@ -108,8 +108,8 @@ none-follows : (n : ℕ) → among 127 n n ≡ false
 unfolding ahead
 none-follows n =
     elim (decLe 256 n) [
-      yes h ↦ beyond 127 n n h (omega arith)
-    | no h ↦ among-near 127 n n (omega arith) (omega arith) (omega arith) ∙ itself
+      | yes h ↦ beyond 127 n n h (omega arith)
+      | no h ↦ among-near 127 n n (omega arith) (omega arith) (omega arith) ∙ itself
     ]
   where
     itself : near n (ahead n n) 127 ≡ false
@@ -209,6 +209,7 @@ took s e is accepted = go (outcome s (e .presented))
   where
     d : e .answer .decision ≡ decide s (e .presented)
     d = ap (λ (r : Selection). r .decision) is
+
     go : Outcome s (e .presented) → Took s e
     go (accepts a b h) =
         record {
@@ -233,7 +234,7 @@ second-left s s' e e' c on =
     let last : s' .last ≡ some (record { number = n; tick = tick }) = ap (λ (x : State). x .last) same ∙ handed-last s (t .network) n tick d in
     let skew : s' .skew ≡ s .skew = ap (λ (x : State). x .skew) same ∙ skew-kept s (t .network) n tick in
     let numbers : sequenceNumber (t' .taken .frame) ≡ n
-        = sym (ap (λ (w : Waiting). sequenceNumber (w .frame)) (t' .takes)) ∙ sym (c .same) ∙ ap (λ (w : Waiting). sequenceNumber (w .frame)) (t .takes) in
+    = sym (ap (λ (w : Waiting). sequenceNumber (w .frame)) (t' .takes)) ∙ sym (c .same) ∙ ap (λ (w : Waiting). sequenceNumber (w .frame)) (t .takes) in
     let ticks : takenBy e .tick ≡ tick = ap (λ (w : Waiting). w .tick) (t .takes) in
     let ticks' : takenBy e' .tick ≡ t' .taken .tick = ap (λ (w : Waiting). w .tick) (t' .takes) in
     ap (λ (x : Decision). x .handedOn) (t' .decided)
@@ -303,6 +304,7 @@ falling-more top tick ticks h f = record { below = below; falls = falls }
     below : (i : ℕ) → i < length (tick ∷ ticks) → getD (tick ∷ ticks) i 0 ≤ tick
     below zero k = omega arith
     below (suc i) k = omega (arith, f .below i (omega arith))
+
     falls : (i j : ℕ) → i ≤ j → j < length (tick ∷ ticks) → getD (tick ∷ ticks) j 0 ≤ getD (tick ∷ ticks) i 0
     falls zero j l k = below j k
     falls (suc i) zero l k = absurd (omega arith)
