@@ -10,7 +10,7 @@ use lib.Dec.{eqb, leb, ltb}
 use lib.ListN.{length, getD, take}
 use borrow.Author.Tests.{le-leb, lt-leb, eq-eqb, ne-eqb, eqb-true, eqb-false, le-ltb, ltb-false}
 use Rattle.model.specs.Basics.{provided, firstMet}
-use Rattle.model.specs.Redundancy.{Waiting, Presented, Network, neither, networkA, networkB, HandedOn, State, Decision, Selection, fresh, sequenceNumber, following, among, sound, isNew, isEmpty, earlier, waitingOn, refusalOf, receivedOn, lastAfter, decideOn, refusedBy, decideOr, decide, partOf, select, Entry, stateAfter, run, takenBy, handsOn, ticksHandedOn, AnsweredBy, Throughout, start, then, Selected, Refused, none-between, one-more, Copies}
+use Rattle.model.specs.Redundancy.{Waiting, Presented, Network, neither, networkA, networkB, HandedOn, State, Decision, Selection, fresh, sequenceNumber, following, among, sound, isNew, isEmpty, earlier, waitingOn, refusalOf, receivedOn, lastAfter, decideOn, refusedBy, decideOr, decide, partOf, select, Entry, entryOf, stateAfter, run, takenBy, handsOn, ticksHandedOn, AnsweredBy, Throughout, start, then, Selected, howMany, Refused, none-between, one-more, Copies}
 
 -- ---- the numbers that follow
 
@@ -194,62 +194,50 @@ unfolding decideOn
 copy-left s network n tick tick' e h =
     and-no (sound (receivedOn network s) n) (isNew (s .skew) (s .last) n tick') (ap (λ l. isNew (s .skew) l n tick') e ∙ not-new (s .skew) n tick tick' h)
 
--- an accepted entry: what it took and what came of it
-record Took (s : State) (e : Entry) : Type 0 where
+-- an accepted call: what it took and what came of it
+record Took (s : State) (c : Presented) : Type 0 where
   network : Network
   taken : Waiting
-  at-least : 1 ≤ length (taken .frame)
-  later : s .taken ≤ taken .tick
-  takes : takenBy e ≡ taken
-  decided : e .answer .decision ≡ decideOn s network (sequenceNumber (taken .frame)) (taken .tick)
+  takes : takenBy (entryOf s c) ≡ taken
+  decided : decide s c ≡ decideOn s network (sequenceNumber (taken .frame)) (taken .tick)
 
-took : (s : State) (e : Entry) → e .answer ≡ select s (e .presented) → e .answer .decision .refused ≡ 0 → Took s e
+took : (s : State) (c : Presented) → decide s c .refused ≡ 0 → Took s c
 unfolding select takenBy refusedBy decideOn
-took s e is accepted = go (outcome s (e .presented))
+took s c accepted = go (outcome s c)
   where
-    d : e .answer .decision ≡ decide s (e .presented)
-    d = ap (λ (r : Selection). r .decision) is
+    go : Outcome s c → Took s c
+    go (accepts a b e) = record { network = earlier c; taken = choice c; takes = ap (λ (x : Decision). waitingOn (x .network) c) e; decided = e }
+    go (refuses k e) = absurd (let z : suc k ≡ 0 = sym (ap (λ (x : Decision). x .refused) e) ∙ accepted in omega arith)
 
-    go : Outcome s (e .presented) → Took s e
-    go (accepts a b h) =
-        record {
-          network = earlier (e .presented);
-          taken = choice (e .presented);
-          at-least = a;
-          later = b;
-          takes = ap (λ (x : Decision). waitingOn (x .network) (e .presented)) (d ∙ h);
-          decided = d ∙ h;
-        }
-    go (refuses k h) = absurd (let z : suc k ≡ 0 = sym (ap (λ (x : Decision). x .refused) (d ∙ h)) ∙ accepted in omega arith)
+module _ (s s' : State) (c c' : Presented) (between : Refused (select s c .decision .state) s') (copies : Copies (s .skew) (entryOf s c) (entryOf s' c')) where
+  second-left : handsOn (entryOf s c) ≡ true → handsOn (entryOf s' c') ≡ false
+  unfolding handsOn select
+  second-left on =
+      let t = took s c (copies .accepted) in
+      let t' = took s' c' (copies .accepted') in
+      let n = sequenceNumber (t .taken .frame) in
+      let tick = t .taken .tick in
+      let d : decideOn s (t .network) n tick .handedOn ≡ true = sym (ap (λ (x : Decision). x .handedOn) (t .decided)) ∙ on in
+      let same : s' ≡ decideOn s (t .network) n tick .state = refused-same (decide s c .state) s' between ∙ ap (λ (x : Decision). x .state) (t .decided) in
+      let last : s' .last ≡ some (record { number = n; tick = tick }) = ap (λ (x : State). x .last) same ∙ handed-last s (t .network) n tick d in
+      let skew : s' .skew ≡ s .skew = ap (λ (x : State). x .skew) same ∙ skew-kept s (t .network) n tick in
+      let numbers : sequenceNumber (t' .taken .frame) ≡ n
+          = sym (ap (λ (w : Waiting). sequenceNumber (w .frame)) (t' .takes)) ∙ sym (copies .same) ∙ ap (λ (w : Waiting). sequenceNumber (w .frame)) (t .takes) in
+      let ticks : takenBy (entryOf s c) .tick ≡ tick = ap (λ (w : Waiting). w .tick) (t .takes) in
+      let ticks' : takenBy (entryOf s' c') .tick ≡ t' .taken .tick = ap (λ (w : Waiting). w .tick) (t' .takes) in
+      ap (λ (x : Decision). x .handedOn) (t' .decided)
+      ∙ ap (λ (k : ℕ). decideOn s' (t' .network) k (t' .taken .tick) .handedOn) numbers
+      ∙ copy-left s' (t' .network) n tick (t' .taken .tick) last (omega (arith, copies .within))
 
-second-left : (s s' : State) (e e' : Entry) → Copies s s' e e' → handsOn e ≡ true → handsOn e' ≡ false
-unfolding handsOn
-second-left s s' e e' c on =
-    let t = took s e (c .first) (c .accepted) in
-    let t' = took s' e' (c .second) (c .accepted') in
-    let n = sequenceNumber (t .taken .frame) in
-    let tick = t .taken .tick in
-    let d : decideOn s (t .network) n tick .handedOn ≡ true = sym (ap (λ (x : Decision). x .handedOn) (t .decided)) ∙ on in
-    let same : s' ≡ decideOn s (t .network) n tick .state = refused-same (e .answer .decision .state) s' (c .between) ∙ ap (λ (x : Decision). x .state) (t .decided) in
-    let last : s' .last ≡ some (record { number = n; tick = tick }) = ap (λ (x : State). x .last) same ∙ handed-last s (t .network) n tick d in
-    let skew : s' .skew ≡ s .skew = ap (λ (x : State). x .skew) same ∙ skew-kept s (t .network) n tick in
-    let numbers : sequenceNumber (t' .taken .frame) ≡ n
-    = sym (ap (λ (w : Waiting). sequenceNumber (w .frame)) (t' .takes)) ∙ sym (c .same) ∙ ap (λ (w : Waiting). sequenceNumber (w .frame)) (t .takes) in
-    let ticks : takenBy e .tick ≡ tick = ap (λ (w : Waiting). w .tick) (t .takes) in
-    let ticks' : takenBy e' .tick ≡ t' .taken .tick = ap (λ (w : Waiting). w .tick) (t' .takes) in
-    ap (λ (x : Decision). x .handedOn) (t' .decided)
-    ∙ ap (λ (k : ℕ). decideOn s' (t' .network) k (t' .taken .tick) .handedOn) numbers
-    ∙ copy-left s' (t' .network) n tick (t' .taken .tick) last (omega (arith, c .within))
-
-pub one-of-two : (s s' : State) (e e' : Entry) → Copies s s' e e' → (provided (handsOn e) 1 + provided (handsOn e') 1 ≤ 1) × (handsOn e ≡ true → provided (handsOn e) 1 + provided (handsOn e') 1 ≡ 1)
-unfolding provided
-one-of-two s s' e e' c = go (handsOn e) refl (handsOn e') refl
-  where
-    go : (b : Bool) → handsOn e ≡ b → (b' : Bool) → handsOn e' ≡ b' → (provided b 1 + provided b' 1 ≤ 1) × (b ≡ true → provided b 1 + provided b' 1 ≡ 1)
-    go true on true on' = absurd (let f = second-left s s' e e' c on in let z : _≡_ {A = ℕ} 0 1 = cc in omega arith)
-    go true on false on' = (omega arith, λ h. refl)
-    go false on true on' = (omega arith, λ h. absurd (let z : _≡_ {A = ℕ} 0 1 = cc in omega arith))
-    go false on false on' = (omega arith, λ h. absurd (let z : _≡_ {A = ℕ} 0 1 = cc in omega arith))
+  pub one-of-two : (howMany (entryOf s c) (entryOf s' c') ≤ 1) × (handsOn (entryOf s c) ≡ true → howMany (entryOf s c) (entryOf s' c') ≡ 1)
+  unfolding provided
+  one-of-two = go (handsOn (entryOf s c)) refl (handsOn (entryOf s' c')) refl
+    where
+      go : (b : Bool) → handsOn (entryOf s c) ≡ b → (b' : Bool) → handsOn (entryOf s' c') ≡ b' → (provided b 1 + provided b' 1 ≤ 1) × (b ≡ true → provided b 1 + provided b' 1 ≡ 1)
+      go true on true on' = absurd (let f = second-left on in let z : _≡_ {A = ℕ} 0 1 = cc in omega arith)
+      go true on false on' = (omega arith, λ h. refl)
+      go false on true on' = (omega arith, λ h. absurd (let z : _≡_ {A = ℕ} 0 1 = cc in omega arith))
+      go false on false on' = (omega arith, λ h. absurd (let z : _≡_ {A = ℕ} 0 1 = cc in omega arith))
 
 -- ---- every list of calls
 
@@ -272,11 +260,11 @@ part-empty : (d : Decision) (c : Presented) → d .handedOn ≡ false → partOf
 unfolding partOf
 part-empty d c on = rw on refl
 
-answered-by : (s : State) (c : Presented) → AnsweredBy s (record { presented = c; answer = select s c })
+answered-by : (s : State) (c : Presented) → AnsweredBy s (entryOf s c)
 unfolding select handsOn takenBy refusedBy decideOn
 answered-by s c = go (outcome s c)
   where
-    go : Outcome s c → AnsweredBy s (record { presented = c; answer = select s c })
+    go : Outcome s c → AnsweredBy s (entryOf s c)
     go (accepts a b e) =
         record {
           unchanged = λ on. part-unchanged (decide s c) c (rw e a) on;
@@ -321,7 +309,7 @@ falling-by d c top tick ticks et ew h f = rw (et, ew) (go (d .handedOn))
 
 -- one call more
 falling-on : (s : State) (log : List Entry) (c : Presented) → Falling (s .taken) (ticksHandedOn log)
-    → Falling (select s c .decision .state .taken) (ticksHandedOn (record { presented = c; answer = select s c } ∷ log))
+    → Falling (select s c .decision .state .taken) (ticksHandedOn (entryOf s c ∷ log))
 unfolding ticksHandedOn handsOn takenBy select decideOn refusedBy
 falling-on s log c f = go (outcome s c)
   where

@@ -17,7 +17,7 @@ use Rattle.model.specs.Port.{Port}
 use Rattle.model.specs.Fitness.{fit}
 use Rattle.model.specs.Report.{Call, step}
 use Rattle.model.specs.Run.{Entry, run, passedBy, departuresBy, without, heldFrames, hasPriority, ticksOf, KeepBagAndJitter, Always, Demand3}
-use Rattle.model.specs.Redundancy.{State, Presented, among, handsOn, howMany, Copies, Selected}
+use Rattle.model.specs.Redundancy.{State, Presented, among, select, entryOf, handsOn, howMany, Refused, Copies, Selected}
 use Rattle.model.specs.Redundancy as redundancy
 
 -- Demand 2: "The table file reads and writes by the layout, each undoing the other"
@@ -151,9 +151,10 @@ abbrev pub AmongByDistance : Type 0
 AmongByDistance = (k m n : ℕ) → k < 255 → m < 256 → n < 256
     → among k m n ≡ (not (eqb n 0) && leb 1 ((n + 255 - m) % 255) && leb ((n + 255 - m) % 255) k)
 
--- "yields at most one frame, and exactly one if the first copy was handed on", from any state
+-- "with nothing between, yields at most one frame, and exactly one if the first copy was handed on", from any state
 abbrev pub OneOfTwo : Type 0
-OneOfTwo = (s s' : State) (e e' : redundancy.Entry) → Copies s s' e e' → (howMany e e' ≤ 1) × (handsOn e ≡ true → howMany e e' ≡ 1)
+OneOfTwo = (s s' : State) (c c' : Presented) → Refused (select s c .decision .state) s' → Copies (s .skew) (entryOf s c) (entryOf s' c')
+    → (howMany (entryOf s c) (entryOf s' c') ≤ 1) × (handsOn (entryOf s c) ≡ true → howMany (entryOf s c) (entryOf s' c') ≡ 1)
 
 -- for every list of calls from a fresh state: parts are frames without their last byte, in order of their ticks; no refusal changes the state
 abbrev pub SelectedAlways : Type 0

@@ -172,6 +172,9 @@ pub record Entry : Type 0 where
   pub presented : Presented
   pub answer : Selection
 
+abbrev pub entryOf : State → Presented → Entry
+entryOf s c = record { presented = c; answer = select s c }
+
 -- the state after the latest of the answers
 unfoldable pub stateAfter : ℕ → List Entry → State
 stateAfter skew [] = fresh skew
@@ -180,7 +183,7 @@ stateAfter skew (e ∷ log) = e .answer .decision .state
 -- calls from a fresh state, each with the state that the one before handed back; the latest first
 unfoldable pub run : ℕ → List Presented → List Entry
 run skew [] = []
-run skew (c ∷ calls) = let log = run skew calls in record { presented = c; answer = select (stateAfter skew log) c } ∷ log
+run skew (c ∷ calls) = let log = run skew calls in entryOf (stateAfter skew log) c ∷ log
 
 -- what the call took
 unfoldable pub takenBy : Entry → Waiting
@@ -221,19 +224,15 @@ pub record Selected (skew : ℕ) (log : List Entry) : Type 0 where
 abbrev pub howMany : Entry → Entry → ℕ
 howMany e e' = provided (handsOn e) 1 + provided (handsOn e') 1
 
--- calls that were refused, each with the state that the one before handed back
+-- "with nothing between": none but calls that were refused
 pub data Refused (s : State) : State → Type 0 where
   none-between : Refused s s
   one-more : {s' : State} (c : Presented) → Refused s s' → (decide s' c .refused ≡ 0 → ⊥) → Refused s (decide s' c .state)
 
--- "The same number .. on A and B within the skew, with nothing between": the second is of the state that the first left, but for calls
--- that were refused. Sound is not asked: what is not sound is not handed on
-pub record Copies (s s' : State) (e e' : Entry) : Type 0 where
-  pub first : e .answer ≡ select s (e .presented)
-  pub between : Refused (e .answer .decision .state) s'
-  pub second : e' .answer ≡ select s' (e' .presented)
+-- "The same number .. on A and B within the skew", of two accepted calls. Sound is not asked: what is not sound is not handed on
+pub record Copies (skew : ℕ) (e e' : Entry) : Type 0 where
   pub accepted : e .answer .decision .refused ≡ 0
   pub accepted' : e' .answer .decision .refused ≡ 0
   pub other : e .answer .decision .network ≡ e' .answer .decision .network → ⊥
   pub same : sequenceNumber (takenBy e .frame) ≡ sequenceNumber (takenBy e' .frame)
-  pub within : takenBy e' .tick - takenBy e .tick ≤ s .skew
+  pub within : takenBy e' .tick - takenBy e .tick ≤ skew
