@@ -48,10 +48,10 @@ pub mod Levels
 pub mod Demand
 pub mod Later
 -- ---- networks A and B
-pub mod Redundancy
+pub mod RedundancyExamples
+pub mod Selections
 -- ---- the examples, and all theorems under their names
 pub mod Examples
 pub mod ClauseExamples
 pub mod ClimbedExamples
-pub mod RedundancyExamples
 pub mod Theorems

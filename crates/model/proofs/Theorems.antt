@@ -13,11 +13,11 @@ use Rattle.model.proofs.Fitness as Fitness
 use Rattle.model.proofs.FitKept as FitKept
 use Rattle.model.proofs.Demand as Demand
 use Rattle.model.proofs.Later as Later
-use Rattle.model.proofs.Redundancy as Redundancy
+use Rattle.model.proofs.RedundancyExamples as selected
+use Rattle.model.proofs.Selections as Selections
 use Rattle.model.proofs.Examples as shown
 use Rattle.model.proofs.ClauseExamples as told
 use Rattle.model.proofs.ClimbedExamples as climbed
-use Rattle.model.proofs.RedundancyExamples as selected
 
 pub reads-written : ReadsWritten
 reads-written = ReadBack.read-written
@@ -71,14 +71,14 @@ pub digits-written : DigitsWritten
 digits-written base digits all = (Digits.from-below base digits all, Digits.to-from base digits all)
 
 pub among-by-distance : AmongByDistance
-unfolding Redundancy.near Redundancy.ahead
-among-by-distance = Redundancy.among-near
+unfolding Selections.near Selections.ahead
+among-by-distance = Selections.among-near
 
 pub one-of-two : OneOfTwo
-one-of-two = Redundancy.one-of-two
+one-of-two = Selections.one-of-two
 
 pub selected-always : SelectedAlways
-selected-always = Redundancy.selected-always
+selected-always = Selections.selected-always
 
 pub examples-correct : ExamplesCorrect
 examples-correct =

@@ -108,13 +108,13 @@ fn goes_on(previous: Received, skew: u64, last: HandedOn, number: u8, tick: u64)
 }
 
 // What was handed on last, once a frame was taken.
-fn last_after(last: HandedOn, handed_on: bool, number: u8, tick: u64) -> HandedOn
-    ensures { λ r. ⌜ viewHandedOn r ≡ lastAfter (viewHandedOn last) «handed_on» number tick ⌝ }
+fn last_after(before: HandedOn, handed_on: bool, number: u8, tick: u64) -> HandedOn
+    ensures { λ r. ⌜ viewHandedOn r ≡ lastAfter (viewHandedOn before) «handed_on» number tick ⌝ }
 {
     if handed_on {
         return HandedOn::Frame(number, tick);
     }
-    last
+    before
 }
 
 // A frame taken from A.
@@ -165,14 +165,14 @@ fn decide_b(s: State, number: u8, tick: u64) -> Decision
     }
 }
 
-fn refusal(refused: u8, state: State) -> Decision
-    ensures { λ r. ⌜ viewDecision r ≡ refusedBy refused (viewState state) ⌝ }
+fn refusal(refused: u8, s: State) -> Decision
+    ensures { λ r. ⌜ viewDecision r ≡ refusedBy refused (viewState s) ⌝ }
 {
     Decision {
         refused,
         network: Network::Neither,
         handed_on: false,
-        state,
+        state: s,
     }
 }
 
