@@ -3,6 +3,7 @@
 mod bounds;
 mod measure;
 mod port;
+mod redundancy;
 mod table;
 
 fn main() {
@@ -11,4 +12,5 @@ fn main() {
     table::run();
     bounds::run();
     port::run();
+    redundancy::run();
 }

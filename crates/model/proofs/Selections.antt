@@ -222,7 +222,7 @@ module _ (s s' : State) (c c' : Presented) (between : Refused (select s c .decis
       let last : s' .last ≡ some (record { number = n; tick = tick }) = ap (λ (x : State). x .last) same ∙ handed-last s (t .network) n tick d in
       let skew : s' .skew ≡ s .skew = ap (λ (x : State). x .skew) same ∙ skew-kept s (t .network) n tick in
       let numbers : sequenceNumber (t' .taken .frame) ≡ n
-          = sym (ap (λ (w : Waiting). sequenceNumber (w .frame)) (t' .takes)) ∙ sym (copies .same) ∙ ap (λ (w : Waiting). sequenceNumber (w .frame)) (t .takes) in
+      = sym (ap (λ (w : Waiting). sequenceNumber (w .frame)) (t' .takes)) ∙ sym (copies .same) ∙ ap (λ (w : Waiting). sequenceNumber (w .frame)) (t .takes) in
       let ticks : takenBy (entryOf s c) .tick ≡ tick = ap (λ (w : Waiting). w .tick) (t .takes) in
       let ticks' : takenBy (entryOf s' c') .tick ≡ t' .taken .tick = ap (λ (w : Waiting). w .tick) (t' .takes) in
       ap (λ (x : Decision). x .handedOn) (t' .decided)
