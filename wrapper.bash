@@ -1,5 +1,6 @@
-# What ./sheet and ./replay have in common; each sets usage and sources this. A wrapper ends with 0; with 2 for wrong use, or
-# where something can't be read, written or built; with 3 where the program refuses all that it was given.
+# What ./sheet, ./replay and ./redundancy have in common; each sets usage and sources this. A wrapper ends with 0; with 2 for wrong
+# use, or where something can't be read, written or built; with 3 where the program refuses all that it was given, or ends at a
+# refusal.
 # shellcheck disable=SC2154
 set -u
 home=$(dirname -- "${BASH_SOURCE[0]}")

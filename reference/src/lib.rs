@@ -9,6 +9,8 @@ pub mod examples;
 pub mod port;
 pub mod random;
 pub mod record;
+pub mod recordings;
+pub mod redundancy;
 pub mod replay;
 pub mod sheet;
 pub mod table;

@@ -1,17 +1,19 @@
 //! `reference CASES FOLDER` makes the cases, `reference check-CASES FOLDER` compares the committed ones with
-//! what is computed, `reference watch` watches demand 3 on the lists of the port's cases, and `reference replay
-//! TABLE REPORTS` prints what the program replay must print.
+//! what is computed, `reference watch` watches demand 3 on the lists of the port's cases, `reference replay TABLE
+//! REPORTS` prints what the program replay must print, and `reference redundancy SKEW A B` what redundancy must.
 
-use reference::cases::{bounds, differing, port, replay, store, table, Files};
+use reference::cases::{bounds, differing, port, recordings, redundancy, replay, store, table, Files};
 use std::env;
 use std::fs;
 use std::path::Path;
 use std::process::ExitCode;
 
-const USAGE: &str = "usage: reference table-cases | bounds-cases | port-cases | replay-case FOLDER
-       reference check-table-cases | check-bounds-cases | check-port-cases | check-replay-case FOLDER
+const USAGE: &str = "usage: reference CASES FOLDER
+       reference check-CASES FOLDER
        reference replay TABLE REPORTS
-       reference watch";
+       reference redundancy SKEW A B
+       reference watch
+CASES: table-cases, bounds-cases, port-cases, replay-case, redundancy-cases, redundancy-run";
 
 fn make(files: Files, summary: &str, folder: &Path) -> Result<(), String> {
     store(&files, folder).map_err(|error| format!("{}: {error}", folder.display()))?;
@@ -33,7 +35,9 @@ fn cases_of(name: &str) -> Result<(Files, String), String> {
         "table-cases" => table::cases(),
         "bounds-cases" => bounds::cases(),
         "port-cases" => port::cases(),
+        "redundancy-cases" => redundancy::cases(),
         "replay-case" => return Ok((replay::files(), String::new())),
+        "redundancy-run" => return Ok((recordings::files(), String::new())),
         _ => return Err(USAGE.to_string()),
     };
     let summary = std::mem::take(&mut cases.summary);
@@ -53,6 +57,13 @@ fn run(words: &[&str]) -> Result<(), String> {
         ["replay", table, reports] => {
             print!("{}", reference::replay::replay(&contents(table)?, &contents(reports)?));
             Ok(())
+        }
+        ["redundancy", skew, a, b] => {
+            let skew = reference::recordings::skew_of(skew).ok_or("SKEW is no numeral")?;
+            let (first, second) = (contents(a)?, contents(b)?);
+            let printed = reference::recordings::redundancy(skew, (a, &first), (b, &second));
+            print!("{}", printed.text);
+            printed.message.map_or(Ok(()), Err)
         }
         [command, folder] => {
             let (files, summary) = cases_of(command.strip_prefix("check-").unwrap_or(command))?;
