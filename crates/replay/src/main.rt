@@ -3,9 +3,9 @@
 // 8 bytes: form (0 a wait, 1 a frame), tick, line, number, length.
 mod answers;
 mod parts;
-mod text;
 
 use libc::SEEK_SET;
+use output::tell;
 use port::Port;
 use table::Table;
 
@@ -14,7 +14,7 @@ const TABLE: usize = 4653;
 
 fn main() {
     if os::arg_count() != 3 {
-        answers::tell(b"usage: replay TABLE REPORTS", b"");
+        tell(b"usage: replay TABLE REPORTS", b"");
         return;
     }
     let mut name = io::buffer();
@@ -25,7 +25,7 @@ fn main() {
 fn with_table(name: &[u8]) {
     let fd = os::open_read(name);
     if fd < 0 {
-        answers::tell(b"can't open ", name);
+        tell(b"can't open ", name);
         return;
     }
     let mut file = [0u8; TABLE];
@@ -33,7 +33,7 @@ fn with_table(name: &[u8]) {
     let is_whole = n == TABLE || parts::has_ended(fd);
     libc::close(fd);
     if !is_whole {
-        answers::tell(b"can't read ", name);
+        tell(b"can't read ", name);
         return;
     }
     let reading = table_file::read(&file[..n]);
@@ -51,7 +51,7 @@ fn with_table(name: &[u8]) {
 fn with_reports(t: Table, name: &[u8]) {
     let fd = os::open_read(name);
     if fd < 0 {
-        answers::tell(b"can't open ", name);
+        tell(b"can't open ", name);
         return;
     }
     let state = answered(t, fd);
@@ -59,9 +59,9 @@ fn with_reports(t: Table, name: &[u8]) {
     if state == parts::OTHER {
         answers::refuse(19);
     } else if state == parts::FAILED {
-        answers::tell(b"can't read ", name);
+        tell(b"can't read ", name);
     } else if state == parts::UNWRITTEN {
-        answers::tell(b"can't write", b"");
+        tell(b"can't write", b"");
     }
 }
 

@@ -1,8 +1,8 @@
 // The reports file, part by part.
 use crate::answers;
-use crate::text::Out;
-use crate::text::ROOM;
 use little_endian::read8;
+use output::Out;
+use output::ROOM;
 use port::Answer;
 use port::Port;
 use units::LIST_ROOM;
