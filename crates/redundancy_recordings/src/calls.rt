@@ -4,7 +4,6 @@ use crate::recording::PART;
 use crate::recording::Recording;
 use output::Out;
 use output::ROOM;
-use redundancy::Decision;
 use redundancy::Network;
 use redundancy::State;
 use redundancy_measure::measured;
@@ -23,10 +22,14 @@ pub(crate) const REFUSED: u8 = 4;
 
 pub(crate) const UNWRITTEN: u8 = 5;
 
-// What a call says, and how long the part is.
+// What a call says: the refusal or 0, whose frame was taken, whether it was handed on, how long the part is, and the new state.
 struct Answer {
-    decision: Decision,
+    refused: u8,
+    is_a: bool,
+    is_b: bool,
+    is_on: bool,
     length: u64,
+    state: State,
 }
 
 // The state so far, the frames that wait, what is still to be written, and how the run ends.
@@ -48,19 +51,16 @@ pub(crate) fn run(skew: u64, fd_a: i32, fd_b: i32) -> u8 {
         return UNREAD_A;
     }
     let b = recording::next(fd_b, recording::start(), &mut part_b);
-    if b.failed {
-        return UNREAD_B;
-    }
     let mut now = Reached {
         state: State::fresh(skew),
         a,
         b,
         out: Out::empty(),
-        end: GOING,
+        end: end_of(0, a, b),
     };
     // Nothing says that a file ends, so the loop counts down, from a number that no run uses up.
     let mut turns = u64::MAX;
-    while turns > 0 && now.end == GOING {
+    while turns > 0 && now.end == GOING && !now.out.failed {
         now = turn(now, fd_a, fd_b, &mut part_a, &mut part_b, &mut room);
         turns -= 1;
     }
@@ -78,51 +78,70 @@ fn turn(
     part_b: &mut [u8; PART],
     room: &mut [u8; ROOM],
 ) -> Reached {
-    let state = now.state;
+    let before = now.state;
     let a = now.a;
     let b = now.b;
     let out = now.out;
-    if out.failed {
-        return ending(state, a, b, out, UNWRITTEN);
-    }
-    if a.length == 0 && b.length == 0 {
-        return ending(state, a, b, out, ENDED);
-    }
-    let m = presented(state, part_a, a, part_b, b);
-    let d = m.decision;
-    let length = m.length;
-    let after = d.state;
-    let network = d.network;
-    match network {
-        Network::Neither => {
-            let line = put_refused(out, room, d.refused);
-            ending(after, a, b, line, REFUSED)
-        }
-        Network::A => {
-            let line = put_taken(out, room, b"A ", part_a, a, d.handed_on, length);
-            let next = recording::next(fd_a, a, part_a);
-            ending(after, next, b, line, end_of(next, UNREAD_A))
-        }
-        Network::B => {
-            let line = put_taken(out, room, b"B ", part_b, b, d.handed_on, length);
-            let next = recording::next(fd_b, b, part_b);
-            ending(after, a, next, line, end_of(next, UNREAD_B))
-        }
-    }
-}
-
-fn ending(state: State, a: Recording, b: Recording, out: Out, end: u8) -> Reached {
+    let m = presented(before, part_a, a, part_b, b);
+    let refused = m.refused;
+    let is_a = m.is_a;
+    let is_b = m.is_b;
+    let state = m.state;
+    let line = put_call(out, room, m, part_a, a, part_b, b);
+    let next_a = after(fd_a, a, part_a, is_a);
+    let next_b = after(fd_b, b, part_b, is_b);
     Reached {
         state,
-        a,
-        b,
-        out,
-        end,
+        a: next_a,
+        b: next_b,
+        out: line,
+        end: end_of(refused, next_a, next_b),
     }
 }
 
-fn end_of(next: Recording, unread: u8) -> u8 {
-    if next.failed { unread } else { GOING }
+// The line of a call on these frames.
+fn put_call<'a>(
+    out: Out,
+    room: &mut [u8; ROOM],
+    m: Answer,
+    part_a: &'a [u8],
+    a: Recording,
+    part_b: &'a [u8],
+    b: Recording,
+) -> Out {
+    if m.refused != 0 {
+        return put_refused(out, room, m.refused);
+    }
+    if m.is_a {
+        let n = out.text(room, b"A ");
+        return put_taken(n, room, last_of(part_a, a), a.tick, m.is_on, m.length);
+    }
+    let n = out.text(room, b"B ");
+    put_taken(n, room, last_of(part_b, b), b.tick, m.is_on, m.length)
+}
+
+// The frame that was taken makes room for the next of its recording.
+fn after(fd: i32, r: Recording, part: &mut [u8; PART], is_taken: bool) -> Recording {
+    if is_taken {
+        return recording::next(fd, r, part);
+    }
+    r
+}
+
+fn end_of(refused: u8, a: Recording, b: Recording) -> u8 {
+    if refused != 0 {
+        return REFUSED;
+    }
+    if a.failed {
+        return UNREAD_A;
+    }
+    if b.failed {
+        return UNREAD_B;
+    }
+    if a.length == 0 && b.length == 0 {
+        return ENDED;
+    }
+    GOING
 }
 
 fn presented<'a>(
@@ -135,10 +154,32 @@ fn presented<'a>(
     let frame_a = recording::frame_of(part_a, a);
     let frame_b = recording::frame_of(part_b, b);
     let m = measured(state, frame_a, a.tick, frame_b, b.tick);
-    let decision = m.decision;
+    let d = m.decision;
+    let network = d.network;
+    let state = d.state;
     Answer {
-        decision,
+        refused: d.refused,
+        is_a: is_a(network),
+        is_b: is_b(network),
+        is_on: d.handed_on,
         length: m.measure.length as u64,
+        state,
+    }
+}
+
+fn is_a(network: Network) -> bool {
+    match network {
+        Network::Neither => false,
+        Network::A => true,
+        Network::B => false,
+    }
+}
+
+fn is_b(network: Network) -> bool {
+    match network {
+        Network::Neither => false,
+        Network::A => false,
+        Network::B => true,
     }
 }
 
@@ -162,20 +203,18 @@ fn put_refused(out: Out, room: &mut [u8; ROOM], number: u8) -> Out {
         .text(room, b"\n")
 }
 
-// The line of the frame that was taken.
 fn put_taken(
     out: Out,
     room: &mut [u8; ROOM],
-    network: &[u8],
-    part: &[u8],
-    r: Recording,
+    number: u64,
+    tick: u64,
     is_on: bool,
     length: u64,
 ) -> Out {
-    let n = out.text(room, network).number(room, last_of(part, r));
-    let t = n.text(room, b" ").number(room, r.tick);
-    if !is_on {
-        return t.text(room, b" left\n");
+    let n = out.number(room, number).text(room, b" ");
+    let t = n.number(room, tick);
+    if is_on {
+        return t.text(room, b" on ").number(room, length).text(room, b"\n");
     }
-    t.text(room, b" on ").number(room, length).text(room, b"\n")
+    t.text(room, b" left\n")
 }

@@ -24,14 +24,14 @@ start-requires-2 c κs = search needs
 next-requires-2 : tie.Need-next-requires-2 Inv-loop μ-loop
 next-requires-2 c κs = search needs
 
-returns-2 : tie.Need-returns-2 Inv-loop μ-loop
-returns-2 c = search needs
-
 fresh-requires : tie.Need-fresh-requires Inv-loop μ-loop
 fresh-requires c κs = search needs
 
 empty-requires : tie.Need-empty-requires Inv-loop μ-loop
 empty-requires c κs = search needs
+
+end-of-requires : tie.Need-end-of-requires Inv-loop μ-loop
+end-of-requires c κs = search needs
 
 loop-holds : tie.Need-loop-holds Inv-loop μ-loop
 loop-holds c = search needs
@@ -51,11 +51,11 @@ loop-again c = search needs
 written-requires : tie.Need-written-requires Inv-loop μ-loop
 written-requires c κs = search needs
 
+returns-2 : tie.Need-returns-2 Inv-loop μ-loop
+returns-2 c = search needs
+
 returns-3 : tie.Need-returns-3 Inv-loop μ-loop
 returns-3 c = search needs
-
-returns-4 : tie.Need-returns-4 Inv-loop μ-loop
-returns-4 c = search needs
 
 pub run-spec : {M : Type 1} → statement M
 run-spec =
@@ -68,14 +68,14 @@ run-spec =
     returns
     start-requires-2
     next-requires-2
-    returns-2
     fresh-requires
     empty-requires
+    end-of-requires
     loop-holds
     turn-requires
     sub-turns
     loop-less
     loop-again
     written-requires
-    returns-3
-    returns-4)
+    returns-2
+    returns-3)
