@@ -1,6 +1,7 @@
 // Internal to the product: what a program prints is collected in a room that the caller lends, and written when the room is full.
-use libc::STDERR_FILENO;
 use libc::STDOUT_FILENO;
+ghost use mathlib.Core.Path.{_≡_};
+ghost use mathlib.Core.Bool.{true, false};
 
 pub const ROOM: usize = 8192;
 
@@ -11,27 +12,43 @@ pub struct Out {
 }
 
 impl Out {
-    pub fn empty() -> Out {
+    pub fn empty() -> Out
+        ensures { λ r. ⌜ (r .length ≡ 0) × (r .failed ≡ false) ⌝ }
+    {
         Out {
             length: 0,
             failed: false,
         }
     }
 
-    fn byte(self, room: &mut [u8; ROOM], byte: u8) -> Out {
-        let mut out = self;
-        if out.length >= ROOM {
-            out = out.written(room);
-        }
-        let n = out.length;
+    // A write that failed stays known: so it is of each step below.
+    fn put(self, room: &mut [u8; ROOM], byte: u8) -> Out
+        ensures { λ r. ⌜ (self .failed ≡ true → r .failed ≡ true) ⌝ }
+    {
+        let n = self.length;
         if n < ROOM {
             room[n] = byte;
-            out.length = n + 1;
+            return Out {
+                length: n + 1,
+                failed: self.failed,
+            };
         }
-        out
+        self
     }
 
-    pub fn text(self, room: &mut [u8; ROOM], text: &[u8]) -> Out {
+    fn byte(self, room: &mut [u8; ROOM], byte: u8) -> Out
+        ensures { λ r. ⌜ (self .failed ≡ true → r .failed ≡ true) ⌝ }
+    {
+        if self.length >= ROOM {
+            let out = self.written(room);
+            return out.put(room, byte);
+        }
+        self.put(room, byte)
+    }
+
+    pub fn text(self, room: &mut [u8; ROOM], text: &[u8]) -> Out
+        ensures { λ r. ⌜ (self .failed ≡ true → r .failed ≡ true) ⌝ }
+    {
         let mut out = self;
         let mut i: usize = 0;
         while i < text.len() {
@@ -41,17 +58,27 @@ impl Out {
         out
     }
 
-    pub fn number(self, room: &mut [u8; ROOM], n: u64) -> Out {
+    pub fn number(self, room: &mut [u8; ROOM], n: u64) -> Out
+        ensures { λ r. ⌜ (self .failed ≡ true → r .failed ≡ true) ⌝ }
+    {
         let mut digits = [0u8; 20];
         let k = io::decimal(n, &mut digits);
         self.text(room, &digits[..k])
     }
 
     // All that is collected, written.
-    pub fn written(self, room: &[u8; ROOM]) -> Out {
+    pub fn written(self, room: &[u8; ROOM]) -> Out
+        ensures { λ r. ⌜ (r .length ≡ 0) × (self .failed ≡ true → r .failed ≡ true) ⌝ }
+    {
+        if self.failed {
+            return Out {
+                length: 0,
+                failed: true,
+            };
+        }
         Out {
             length: 0,
-            failed: self.failed || !is_written(room, self.length),
+            failed: !is_written(room, self.length),
         }
     }
 }
@@ -62,11 +89,4 @@ fn is_written(room: &[u8], n: usize) -> bool {
     }
     let k = io::count(n as isize, room);
     io::write_all(STDOUT_FILENO, &room[..k])
-}
-
-// A message, to standard error.
-pub fn tell(what: &[u8], name: &[u8]) {
-    io::write_all(STDERR_FILENO, what);
-    io::write_all(STDERR_FILENO, name);
-    io::write_all(STDERR_FILENO, b"\n");
 }

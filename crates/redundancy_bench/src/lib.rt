@@ -3,11 +3,19 @@ use redundancy::Network;
 use redundancy::State;
 use redundancy_measure::Measure;
 use redundancy_measure::measured;
+ghost use mathlib.Core.Path.{_≡_};
+ghost use Prim.Native.Nat.{_≤_};
+ghost use lib.ListN.{getD};
+ghost use Rattle.model.specs.Redundancy.{fresh};
+ghost use Rattle.redundancy.specs.View.{viewNetwork};
+ghost use Rattle.redundancy_bench.specs.Sums.{frameAt, isB, added, sumOf};
 
 const FRAME: usize = 64;
 
 // The k-th frame of a recording, or none.
-fn frame_at<'a>(frames: &'a [u8], k: usize) -> &'a [u8] {
+fn frame_at<'a>(frames: &'a [u8], k: usize) -> &'a [u8]
+    ensures { λ r. ⌜ now r ≡ frameAt (now (frames .entry)) k ⌝ }
+{
     if k < frames.len() / FRAME {
         let at = k * FRAME;
         return &frames[at..at + FRAME];
@@ -15,14 +23,18 @@ fn frame_at<'a>(frames: &'a [u8], k: usize) -> &'a [u8] {
     &frames[..0]
 }
 
-fn tick_at(ticks: &[u64], k: usize) -> u64 {
+fn tick_at(ticks: &[u64], k: usize) -> u64
+    ensures { λ r. ⌜ r ≡ getD (now (ticks .entry)) k 0 ⌝ }
+{
     if k < ticks.len() {
         return ticks[k];
     }
     0
 }
 
-fn is_b(network: Network) -> bool {
+fn is_b(network: Network) -> bool
+    ensures { λ r. ⌜ r ≡ isB (viewNetwork network) ⌝ }
+{
     match network {
         Network::Neither => false,
         Network::A => false,
@@ -31,11 +43,17 @@ fn is_b(network: Network) -> bool {
 }
 
 // The sum of what is told of the parts, from one call to the next.
-fn added(total: u64, measure: Measure) -> u64 {
-    total % 4294967296
-        + (measure.length % 65536) as u64
-        + measure.first as u64
-        + measure.last as u64
+fn with_part(total: u64, m: Measure) -> u64
+    ensures { λ r. ⌜ r ≡ added total m ⌝ }
+{
+    let length = (m.length % 65536) as u64;
+    total % 4294967296 + length + wide(m.first) + wide(m.last)
+}
+
+fn wide(x: u8) -> u64
+    ensures { λ r. ⌜ (r ≡ x) × (r ≤ 255) ⌝ }
+{
+    x as u64
 }
 
 // So many calls from a fresh state; the frame that is taken makes room for the next of its recording.
@@ -47,7 +65,9 @@ pub extern "C" fn bench_redundancy<'a>(
     ticks_b: &'a [u64],
     skew: u64,
     calls: usize,
-) -> u64 {
+) -> u64
+    ensures { λ r. ⌜ r ≡ sumOf calls (record { a = now (a .entry); ticksA = now («ticks_a» .entry); b = now (b .entry); ticksB = now («ticks_b» .entry) }) (fresh skew) 0 0 0 ⌝ }
+{
     let mut state = State::fresh(skew);
     let mut total: u64 = 0;
     let mut i: usize = 0;
@@ -64,7 +84,7 @@ pub extern "C" fn bench_redundancy<'a>(
         let d = m.decision;
         state = d.state;
         let measure = m.measure;
-        total = added(total, measure);
+        total = with_part(total, measure);
         let network = d.network;
         if is_b(network) {
             j += 1;

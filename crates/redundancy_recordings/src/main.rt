@@ -5,8 +5,8 @@ mod calls;
 mod numeral;
 mod recording;
 
+use libc::STDERR_FILENO;
 use libc::STDIN_FILENO;
-use output::tell;
 
 fn main() {
     if os::arg_count() != 4 {
@@ -21,6 +21,13 @@ fn main() {
         return;
     }
     with_skew(skew.value);
+}
+
+// A message, to standard error; `refused` alone tells that a call was refused.
+fn tell(what: &[u8], name: &[u8]) {
+    io::write_all(STDERR_FILENO, what);
+    io::write_all(STDERR_FILENO, name);
+    io::write_all(STDERR_FILENO, b"\n");
 }
 
 fn tell_usage() {

@@ -1,7 +1,7 @@
 // What is printed.
+use libc::STDERR_FILENO;
 use output::Out;
 use output::ROOM;
-use output::tell;
 use port::Port;
 use port_scheduler::Queue;
 use units::LIST_ROOM;
@@ -9,7 +9,14 @@ use units::MOST_FRAMES;
 use units::MOST_HELD;
 ghost use Prim.Native.Nat.{_≤_};
 
-// The table or the file of reports is refused. `refused` alone tells that all is, and not one report of a list.
+// To standard error: a message; or `refused` alone, which tells that all is refused and not one report of a list.
+pub(crate) fn tell(what: &[u8], name: &[u8]) {
+    io::write_all(STDERR_FILENO, what);
+    io::write_all(STDERR_FILENO, name);
+    io::write_all(STDERR_FILENO, b"\n");
+}
+
+// The table or the file of reports is refused.
 pub(crate) fn refuse(number: u64) {
     let mut room = [0u8; ROOM];
     let out = put_refused(Out::empty(), &mut room, number);

@@ -5,7 +5,6 @@ mod answers;
 mod parts;
 
 use libc::SEEK_SET;
-use output::tell;
 use port::Port;
 use table::Table;
 
@@ -14,7 +13,7 @@ const TABLE: usize = 4653;
 
 fn main() {
     if os::arg_count() != 3 {
-        tell(b"usage: replay TABLE REPORTS", b"");
+        answers::tell(b"usage: replay TABLE REPORTS", b"");
         return;
     }
     let mut name = io::buffer();
@@ -25,7 +24,7 @@ fn main() {
 fn with_table(name: &[u8]) {
     let fd = os::open_read(name);
     if fd < 0 {
-        tell(b"can't open ", name);
+        answers::tell(b"can't open ", name);
         return;
     }
     let mut file = [0u8; TABLE];
@@ -33,7 +32,7 @@ fn with_table(name: &[u8]) {
     let is_whole = n == TABLE || parts::has_ended(fd);
     libc::close(fd);
     if !is_whole {
-        tell(b"can't read ", name);
+        answers::tell(b"can't read ", name);
         return;
     }
     let reading = table_file::read(&file[..n]);
@@ -51,7 +50,7 @@ fn with_table(name: &[u8]) {
 fn with_reports(t: Table, name: &[u8]) {
     let fd = os::open_read(name);
     if fd < 0 {
-        tell(b"can't open ", name);
+        answers::tell(b"can't open ", name);
         return;
     }
     let state = answered(t, fd);
@@ -59,9 +58,9 @@ fn with_reports(t: Table, name: &[u8]) {
     if state == parts::OTHER {
         answers::refuse(19);
     } else if state == parts::FAILED {
-        tell(b"can't read ", name);
+        answers::tell(b"can't read ", name);
     } else if state == parts::UNWRITTEN {
-        tell(b"can't write", b"");
+        answers::tell(b"can't write", b"");
     }
 }
 
