@@ -1,11 +1,10 @@
 -- The examples of networks A and B, computed from the definitions alone.
-use mathlib.Core.Path.{_≡_, refl}
-use mathlib.Core.List.{List, [], _∷_, map}
+use mathlib.Core.Path.{refl}
 use Rattle.model.specs.Basics.{Each, done, also, firstMet}
 use Rattle.model.specs.Redundancy.{fresh, sequenceNumber, following, among, sound, isNew, isEmpty, earlier, waitingOn, refusalOf, receivedOn, nextOnA, nextOnB, lastAfter, decideOn, refusedBy, decideOr, decide, partOf, select, stateAfter, run}
 use Rattle.model.specs.RedundancyExamples.{Recording, repliesTo}
 use Rattle.model.specs.RedundancyExamples as example
-use Rattle.model.specs.Examples.{Example, selects, Correct, selections}
+use Rattle.model.specs.Examples.{selects, Correct, selections}
 
 -- names for all that an example computes with
 the-rules : Type 0

@@ -1,16 +1,16 @@
 -- Networks A and B: numbers that follow by their distance; one of two copies; what every list of calls keeps.
 use mathlib.Core.Path.{_≡_, refl, sym, ap, _∙_}
-use mathlib.Core.Bool.{Bool, true, false, cond, _&&_, _||_, not, and-eq-true-iff}
-use mathlib.Core.Option.{Option, none, some}
+use mathlib.Core.Bool.{Bool, true, false, cond, _&&_, _||_, not}
+use mathlib.Core.Option.{some}
 use mathlib.Core.List.{List, [], _∷_, _++_}
 use Prim.Native.Nat.{ℕ, zero, suc, _+_, _-_, _%_, _≤_, _<_}
 use native.Mathlib.Decide.{decLe, ℕ-discrete}
 use native.Mathlib.Omega.{arith}
 use lib.Dec.{eqb, leb, ltb}
 use lib.ListN.{length, getD, take}
-use borrow.Author.Tests.{le-leb, lt-leb, eq-eqb, ne-eqb, eqb-true, eqb-false, le-ltb, ltb-false}
+use borrow.Author.Tests.{le-leb, lt-leb, eq-eqb, ne-eqb, eqb-false, le-ltb, ltb-false}
 use Rattle.model.specs.Basics.{provided, firstMet}
-use Rattle.model.specs.Redundancy.{Waiting, Presented, Network, neither, networkA, networkB, HandedOn, State, Decision, Selection, fresh, sequenceNumber, following, among, sound, isNew, isEmpty, earlier, waitingOn, refusalOf, receivedOn, lastAfter, decideOn, refusedBy, decideOr, decide, partOf, select, Entry, entryOf, stateAfter, run, takenBy, handsOn, ticksHandedOn, AnsweredBy, Throughout, start, then, Selected, howMany, Refused, none-between, one-more, Copies}
+use Rattle.model.specs.Redundancy.{Waiting, Presented, Network, networkA, networkB, State, Decision, sequenceNumber, following, among, sound, isNew, isEmpty, earlier, waitingOn, refusalOf, receivedOn, lastAfter, decideOn, refusedBy, decideOr, decide, partOf, select, Entry, entryOf, stateAfter, run, takenBy, handsOn, ticksHandedOn, AnsweredBy, Throughout, start, then, Selected, howMany, Refused, none-between, one-more, Copies}
 
 -- ---- the numbers that follow
 

@@ -6,7 +6,7 @@ use mathlib.Core.List.{List, [], _∷_, _++_}
 use Prim.Native.Nat.{ℕ, zero, suc, _+_, _-_, _≤_, _<_}
 use lib.Dec.{eqb, leb, ltb}
 use lib.ListN.{length, getD, take}
-use Rattle.model.specs.Basics.{provided, Each, Check, check, firstMet}
+use Rattle.model.specs.Basics.{provided, check, firstMet}
 
 -- ---- what waits, and what is kept
 

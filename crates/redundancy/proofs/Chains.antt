@@ -2,12 +2,11 @@
 use mathlib.Core.Path.{_≡_, refl, sym, ap, _∙_}
 use mathlib.Core.List.{List, [], _∷_}
 use Prim.Native.Nat.{ℕ}
-use Rattle.model.specs.Redundancy.{State, Presented, Entry, Selection, fresh, decide, select, entryOf, stateAfter, run, Refused, none-between, one-more}
+use Rattle.model.specs.Redundancy.{State, Presented, Entry, Selection, decide, select, entryOf, stateAfter, run, Refused, none-between, one-more}
 use Rattle.model.proofs.Theorems.{one-of-two, selected-always}
 use Rattle.redundancy.specs.declared.State.{State as StateRecord}
-use Rattle.redundancy.specs.declared.Selection.{Selection as SelectionRecord}
 use Rattle.redundancy.specs.View.{viewState, viewSelection}
-use Rattle.redundancy.specs.Calls.{Answered, entryWith, Chain, begins, goes-on, SelectedOfCalls, RefusedCalls, OneOfTwoOfCalls}
+use Rattle.redundancy.specs.Calls.{entryWith, Chain, begins, goes-on, SelectedOfCalls, RefusedCalls, OneOfTwoOfCalls}
 use Rattle.redundancy.specs.Calls as calls
 
 -- the calls of a chain, and that their run is its log and its state

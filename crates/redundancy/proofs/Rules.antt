@@ -1,12 +1,11 @@
 -- The outcomes of each test, over the definitions.
 use mathlib.Core.Path.{_≡_, refl, sym, ap, _∙_}
 use mathlib.Core.Bool.{Bool, true, false, _&&_, _||_, not, or-false}
-use mathlib.Core.Option.{Option, none, some}
 use mathlib.Core.List.{List, [], _∷_}
 use Prim.Native.Nat.{ℕ, _+_, _-_, _%_, _≤_, _<_}
 use native.Mathlib.Omega.{arith}
-use lib.Dec.{eqb, leb, ltb}
-use lib.ListN.{length, getD, take}
+use lib.Dec.{eqb, leb}
+use lib.ListN.{length, take}
 use borrow.Author.Tests.{le-leb, lt-leb, eq-eqb, ne-eqb, lt-ltb, le-ltb}
 use Rattle.model.specs.Basics.{firstMet}
 use Rattle.model.specs.Redundancy.{networkA, networkB, State, sequenceNumber, among, sound, isNew, isEmpty, earlier, waitingOn, refusalOf, receivedOn, nextOnA, nextOnB, lastAfter, decideOn, refusedBy, decideOr, decide, partOf}

@@ -1,5 +1,5 @@
 -- The last byte, and 0 where there is none.
-use mathlib.Core.Path.{refl, sym}
+use mathlib.Core.Path.{refl}
 use borrow.Author.Needs.{needs}
 use Rattle.model.specs.Redundancy.{sequenceNumber}
 use Rattle.redundancy.proofs.Rules.{no-last}
