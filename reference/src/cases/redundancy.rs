@@ -177,6 +177,6 @@ mod tests {
     #[test]
     fn they_are_not_long() {
         let cases = cases();
-        assert!(cases.stdin.len() + cases.stdout.len() <= 400_000);
+        assert!(cases.stdin.len() + cases.stdout.len() <= 500_000);
     }
 }

@@ -8,6 +8,11 @@ use std::collections::VecDeque;
 
 const RUNS: usize = 54;
 
+/// Every so many runs the stream is long enough to go round the cycle of numbers.
+const LONG: usize = 27;
+
+const LONG_STREAM: u64 = 400;
+
 /// How a network treats the frames of a stream.
 struct Path {
     delay: u64,
@@ -28,13 +33,13 @@ fn path(random: &mut Random) -> Path {
     }
 }
 
-/// Ticks and numbers, as sent.
-fn stream(random: &mut Random) -> Vec<(u64, u8)> {
+/// So many ticks and numbers, as sent.
+fn stream(random: &mut Random, many: u64) -> Vec<(u64, u8)> {
     let gap = random.pick(&[1, 4, 10, 30]);
     let mut tick = random.pick(&[0, 0, 1_000, u64::MAX - 400]);
     let mut number = random.pick(&[0, 1, 120, 250, 254]);
     let mut sent = Vec::new();
-    for _ in 0..random.from(15, 45) {
+    for _ in 0..many {
         sent.push((tick, number));
         tick = tick.saturating_add(random.from(1, gap));
         number = match random.from(0, 39) {
@@ -81,10 +86,10 @@ fn presented(random: &mut Random, frames: &VecDeque<Frame>, absent: u64) -> Fram
 }
 
 /// A frame that was taken goes, and so does one that was refused.
-fn run(random: &mut Random) -> (State, Vec<Call>) {
+fn run(random: &mut Random, many: u64) -> (State, Vec<Call>) {
     let skew = random.pick(&[0, 1, 5, 20, 50, 100, 100, u64::MAX]);
     let start = State::fresh(skew);
-    let sent = stream(random);
+    let sent = stream(random, many);
     let [path_a, path_b] = [path(random), path(random)];
     let mut on_a = arrivals(random, &sent, &path_a);
     let mut on_b = arrivals(random, &sent, &path_b);
@@ -113,12 +118,24 @@ fn run(random: &mut Random) -> (State, Vec<Call>) {
 
 pub fn all() -> Vec<(State, Vec<Call>)> {
     let mut random = Random::new(101_001);
-    (0..RUNS).map(|_| run(&mut random)).collect()
+    let many = |random: &mut Random, i| if i % LONG == LONG - 1 { LONG_STREAM } else { random.from(15, 45) };
+    (0..RUNS)
+        .map(|i| {
+            let many = many(&mut random, i);
+            run(&mut random, many)
+        })
+        .collect()
 }
 
 #[cfg(test)]
 mod tests {
     use super::*;
+
+    #[test]
+    fn some_are_long() {
+        let long = all().iter().filter(|(_, calls)| calls.len() >= 600).count();
+        assert_eq!(long, RUNS / LONG);
+    }
 
     /// What is watched of an accepted call.
     struct Taken {
