@@ -1,10 +1,10 @@
 // For bench/: two recordings in memory run through the call of `redundancy`, one call after the other.
+use numbers::u8_as_u64;
 use redundancy::Network;
 use redundancy::State;
 use redundancy_measure::Measure;
 use redundancy_measure::measured;
 ghost use mathlib.Core.Path.{_≡_};
-ghost use Prim.Native.Nat.{_≤_};
 ghost use lib.ListN.{getD};
 ghost use Rattle.model.specs.Redundancy.{fresh};
 ghost use Rattle.redundancy.specs.View.{viewNetwork};
@@ -47,13 +47,7 @@ fn with_part(total: u64, m: Measure) -> u64
     ensures { λ r. ⌜ r ≡ added total m ⌝ }
 {
     let length = (m.length % 65536) as u64;
-    total % 4294967296 + length + wide(m.first) + wide(m.last)
-}
-
-fn wide(x: u8) -> u64
-    ensures { λ r. ⌜ (r ≡ x) × (r ≤ 255) ⌝ }
-{
-    x as u64
+    total % 4294967296 + length + u8_as_u64(m.first) + u8_as_u64(m.last)
 }
 
 // So many calls from a fresh state; the frame that is taken makes room for the next of its recording.

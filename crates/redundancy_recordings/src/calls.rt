@@ -2,6 +2,7 @@
 use crate::recording;
 use crate::recording::PART;
 use crate::recording::Recording;
+use numbers::u8_as_u64;
 use output::Out;
 use output::ROOM;
 use redundancy::Network;
@@ -190,16 +191,12 @@ fn last_of(part: &[u8], r: Recording) -> u64 {
     if n == 0 {
         return 0;
     }
-    wide(frame[n - 1])
-}
-
-fn wide(x: u8) -> u64 {
-    x as u64
+    u8_as_u64(frame[n - 1])
 }
 
 fn put_refused(out: Out, room: &mut [u8; ROOM], number: u8) -> Out {
     out.text(room, b"refused ")
-        .number(room, wide(number))
+        .number(room, u8_as_u64(number))
         .text(room, b"\n")
 }
 
