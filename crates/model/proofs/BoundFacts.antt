@@ -19,11 +19,11 @@ use Rattle.model.proofs.Curves.{curve-none}
 use Rattle.model.proofs.Holds.{up-grows, hold-is, has-bounds}
 
 -- ---- the greatest of g 0, .., g (n − 1) is m, first at w
-record FirstGreatest (g : ℕ → ℕ) (n m w : ℕ) : Type 0 where
-  greatest : (k : ℕ) → k < n → g k ≤ m
-  within : w < n
-  attained : g w ≡ m
-  earlier : (k : ℕ) → k < w → g k < m
+pub record FirstGreatest (g : ℕ → ℕ) (n m w : ℕ) : Type 0 where
+  pub greatest : (k : ℕ) → k < n → g k ≤ m
+  pub within : w < n
+  pub attained : g w ≡ m
+  pub earlier : (k : ℕ) → k < w → g k < m
 
 -- the search for it finds it
 first-greatest : (g : ℕ → ℕ) (n : ℕ) → 0 < n → FirstGreatest g n (greatestTo g n) (orZero (firstFrom (λ w. eqb (g w) (greatestTo g n)) n 0))
@@ -70,7 +70,7 @@ module _ (t : Table) (p : ℕ) (is-hold : IsHold t p (hold t p)) where
   unfolding backlog ownArrivals
   idle e w = omega (arith, curve-none occupied (ofPriority p) (t .lines) (t .links) w e)
 
-  highest : FirstGreatest (backlog t p) (hold t p) (bound t p) (window t p)
+  pub highest : FirstGreatest (backlog t p) (hold t p) (bound t p) (window t p)
   unfolding bound boundWithin window windowWithin
   highest = go (anyOf (ofPriority p) (t .links)) refl
     where

@@ -118,8 +118,8 @@ holdE zero = 1_499
 holdE (suc p) = 1_500
 
 abbrev boundE : ℕ → ℕ
-boundE zero = 500
-boundE (suc zero) = 1_000
+boundE zero = 480
+boundE (suc zero) = 980
 boundE (suc (suc p)) = 0
 
 e-parts : (p : ℕ) → p < 8 → (bound tableE p ≡ boundE p) × (window tableE p ≡ 0)
@@ -159,11 +159,11 @@ abbrev boundNt : ℕ → ℕ
 boundNt zero = 498
 boundNt (suc zero) = 0
 boundNt (suc (suc zero)) = 0
-boundNt (suc (suc (suc zero))) = 100
+boundNt (suc (suc (suc zero))) = 80
 boundNt (suc (suc (suc (suc p)))) = 0
 
 abbrev windowNt : ℕ → ℕ
-windowNt zero = 298
+windowNt zero = 318
 windowNt (suc p) = 0
 
 nt-parts : (p : ℕ) → p < 8 → (bound tableNt p ≡ boundNt p) × (window tableNt p ≡ windowNt p)

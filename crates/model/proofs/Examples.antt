@@ -20,7 +20,7 @@ use Rattle.model.specs.Port.{fresh}
 use Rattle.model.specs.Fitness.{namesLink, framesFit, senderFit, fit}
 use Rattle.model.specs.Report.{tickOf, frameChecks, reportChecks, allChecks, reportRefusal, admits, admitted, replenished, charged, checkedIf, police, policeAt, hasRoom, storedIf, store, passedIf, judge, judgeReport, bytesFreed, acceptedOr, step}
 use Rattle.model.specs.Run.{run}
-use Rattle.model.specs.Examples.{Outcome, Example, gives-bound, gives-hold, gives-sizing, lacks-bounds, gives-answers, gives-held, gives-fates, keeps, breaks, gives-bags, gives-sheet, selects, outcomes, Correct}
+use Rattle.model.specs.Examples.{Outcome, Example, gives-bound, gives-hold, gives-sizing, lacks-bounds, gives-answers, gives-held, gives-fates, keeps, breaks, fills, gives-bags, gives-sheet, selects, outcomes, Correct}
 use Rattle.model.specs.Examples as example
 
 -- ---- the common theorem: an example whose test computes to true is correct
@@ -53,13 +53,14 @@ computes (lacks-bounds t n) = eqb (boundsRefusal t) n
 computes (gives-answers t calls expected) = sameOutcomes (outcomes t calls) expected
 computes (gives-bags bags) = sameNumbers (eight bagOf) bags
 computes (gives-sheet t printed) = sameNumbers (sheet (tableBytes t)) (text printed)
--- the whole answer is shown from its parts, in ClimbedExamples, the words of demand 3 from the answers, in ClauseExamples, and networks A and
--- B in RedundancyExamples
+-- the whole answer is shown from its parts, in ClimbedExamples, the words of demand 3 from the answers, in ClauseExamples, a full buffer
+-- in FullExamples, and networks A and B in RedundancyExamples
 computes (gives-sizing t expected) = false
 computes (gives-held t calls p expected) = false
 computes (gives-fates t calls n expected) = false
 computes (keeps t calls i) = false
 computes (breaks t calls i) = false
+computes (fills t calls clock p frames mark) = false
 computes (selects r) = false
 
 numbers-equal : (xs ys : List ℕ) → sameNumbers xs ys ≡ true → xs ≡ ys
@@ -104,6 +105,7 @@ settled (gives-held t calls p expected) e = absurd (let z : _≡_ {A = ℕ} 0 1 
 settled (gives-fates t calls n expected) e = absurd (let z : _≡_ {A = ℕ} 0 1 = cc in omega arith)
 settled (keeps t calls i) e = absurd (let z : _≡_ {A = ℕ} 0 1 = cc in omega arith)
 settled (breaks t calls i) e = absurd (let z : _≡_ {A = ℕ} 0 1 = cc in omega arith)
+settled (fills t calls clock p frames mark) e = absurd (let z : _≡_ {A = ℕ} 0 1 = cc in omega arith)
 settled (selects r) e = absurd (let z : _≡_ {A = ℕ} 0 1 = cc in omega arith)
 
 -- names for all that an example computes with
@@ -170,6 +172,14 @@ v = settled example.v refl
 pub w : Correct example.w
 unfolding the-port
 w = settled example.w refl
+
+pub x : Correct example.x
+unfolding the-port
+x = settled example.x refl
+
+pub y : Correct example.y
+unfolding the-port
+y = settled example.y refl
 
 pub a : Correct example.a
 unfolding the-formulas

@@ -54,4 +54,5 @@ pub mod Selections
 pub mod Examples
 pub mod ClauseExamples
 pub mod ClimbedExamples
+pub mod FullExamples
 pub mod Theorems

@@ -1,6 +1,7 @@
--- The ten marked examples of the paper, a to j, and ours: k to w, windows, whole answers and sheets, the words of demand 3, and networks A
+-- The ten marked examples of the paper, a to j, and ours: k to y, windows, whole answers and sheets, the words of demand 3, and networks A
 -- and B, as one list.
 use mathlib.Core.Path.{_≡_}
+use mathlib.Core.Bool.{true}
 use mathlib.Core.List.{List, [], _∷_, _++_, map, reverse}
 use Prim.Native.Nat.{ℕ, zero, suc, _+_, _-_}
 use Prim.Native.String.{String}
@@ -10,7 +11,9 @@ use Rattle.model.specs.Link.{VirtualLink, bagOf, linkAt}
 use Rattle.model.specs.Table.{Table}
 use Rattle.model.specs.TableFile.{tableBytes}
 use Rattle.model.specs.Bounds.{boundsRefusal, hold, bound, window, Sizing, sizing}
-use Rattle.model.specs.Machine.{Frame}
+use Rattle.model.specs.Machine.{Frame, queueOf}
+use Rattle.model.specs.Port.{markOf}
+use Rattle.model.specs.Fitness.{fit}
 use Rattle.model.specs.Report.{Report, wait, frame, Answer, Call, arrived}
 use Rattle.model.specs.Sheet.{text, sheet}
 use Rattle.model.specs.Run.{Entry, run, storedBy, policedBy, droppedBy, passedBy, throughBy, heldOf, mostHeld, ticksOf, LinkKeeps}
@@ -49,6 +52,8 @@ pub data Example : Type 0 where
   -- of a table and calls in order: the link at a place keeps BAG and jitter, or does not
   keeps : Table → List Call → ℕ → Example
   breaks : Table → List Call → ℕ → Example
+  -- of a table and calls in order: every frame is stored and none leaves; by a clock a priority has so many frames and that mark, and the record is fit
+  fills : Table → List Call → ℕ → ℕ → ℕ → ℕ → Example
   -- the BAG of codes 0 to 7
   gives-bags : List ℕ → Example
   -- a table with its printed sheet
@@ -90,6 +95,13 @@ Correct (gives-held t calls p expected) = holdings t p (logOf t calls) ≡ expec
 Correct (gives-fates t calls n expected) = fates n (logOf t calls) ≡ expected
 Correct (keeps t calls i) = LinkKeeps (linkAt (t .links) i) (logOf t calls)
 Correct (breaks t calls i) = LinkKeeps (linkAt (t .links) i) (logOf t calls) → ⊥
+Correct (fills t calls clock p frames mark) =
+    let h = run t (reverse calls) in
+    (map (λ e. e .answer) (h .log) ≡ replicate (length calls) (record { refused = 0; verdict = 0; frames = 0; bytes = 0 }))
+    × (h .port .scheduler .clock ≡ clock)
+    × (length (queueOf (h .port .scheduler .queues) p) ≡ frames)
+    × (markOf (h .port) p ≡ mark)
+    × (fit t (h .port) ≡ true)
 Correct (gives-bags bags) = eight bagOf ≡ bags
 Correct (gives-sheet t printed) = sheet (tableBytes t) ≡ text printed
 Correct (selects r) = repliesTo (r .skew) (r .calls) ≡ r .replies
@@ -113,31 +125,35 @@ abbrev pub refuses : ℕ → Outcome
 refuses n = record { answer = record { refused = n; verdict = 0; frames = 0; bytes = 0 }; list = replicate 9 7 }
 
 -- "table E (two lines; link 1: line 0, priority 0, lengths 84 to 500; link 2: line 1, priority 1, lengths 84 to 1,000; ..)"
-abbrev pub tableE : Table
-tableE = tableOf 2 (plain 1 0 0 500 ∷ plain 2 1 1 1_000 ∷ []) (2_000 ∷ 2_000 ∷ [])
+abbrev pub sizedE : ℕ → Table
+sizedE size = tableOf 2 (plain 1 0 0 500 ∷ plain 2 1 1 1_000 ∷ []) (size ∷ 2_000 ∷ [])
 
--- "a, b. E: bounds 500 and 1,000; holds 1,499 and 1,500". "For table E the windows are all 0"
+abbrev pub tableE : Table
+tableE = sizedE 2_000
+
+-- "a, b. E: .. holds 1,499 and 1,500". "Table E then has bounds 480 and 980". "For table E the windows are all 0"
 abbrev pub a : Example
-a = gives-bound tableE 0 500 1_499 0
+a = gives-bound tableE 0 480 1_499 0
 
 abbrev pub b : Example
-b = gives-bound tableE 1 1_000 1_500 0
+b = gives-bound tableE 1 980 1_500 0
 
 abbrev pub sizingE : Example
 sizingE =
     gives-sizing tableE
     (record {
       refused = 0;
-      bounds = 500 ∷ 1_000 ∷ replicate 6 0;
+      bounds = 480 ∷ 980 ∷ replicate 6 0;
       holds = 1_499 ∷ replicate 7 1_500;
       windows = replicate 8 0;
     })
 
--- "c. E: link 2 arrives at 1,000 and link 1 at 1,001, at greatest length; link 2 is freed at 2,000, link 1 at 2,500"
+-- "c. E: link 2 arrives at 1,000 and link 1 at 1,001, at greatest length; link 2 is freed at 2,000, link 1 at 2,500".
+-- Bytes freed are what they occupied, 1,460 in all
 abbrev pub c : Example
 c =
     gives-answers tableE (lent (frame 1_000 1 2 1_000) ∷ lent (frame 1_001 0 1 500) ∷ lent (wait 2_000) ∷ lent (wait 2_500) ∷ [])
-    (gives 0 0 0 [] ∷ gives 0 0 0 [] ∷ gives 0 1 1_000 (2 ∷ 1_000 ∷ 2_000 ∷ []) ∷ gives 0 1 500 (1 ∷ 500 ∷ 2_500 ∷ []) ∷ [])
+    (gives 0 0 0 [] ∷ gives 0 0 0 [] ∷ gives 0 1 980 (2 ∷ 1_000 ∷ 2_000 ∷ []) ∷ gives 0 1 480 (1 ∷ 500 ∷ 2_500 ∷ []) ∷ [])
 
 -- "d. Both at 1,000: link 2 is freed at 2,500, link 1 at 1,500"
 abbrev pub callsD : List Call
@@ -146,7 +162,7 @@ callsD = lent (frame 1_000 1 2 1_000) ∷ lent (frame 1_000 0 1 500) ∷ lent (w
 abbrev pub d : Example
 d =
     gives-answers tableE callsD
-    (gives 0 0 0 [] ∷ gives 0 0 0 [] ∷ gives 0 1 500 (1 ∷ 500 ∷ 1_500 ∷ []) ∷ gives 0 1 1_000 (2 ∷ 1_000 ∷ 2_500 ∷ []) ∷ [])
+    (gives 0 0 0 [] ∷ gives 0 0 0 [] ∷ gives 0 1 480 (1 ∷ 500 ∷ 1_500 ∷ []) ∷ gives 0 1 980 (2 ∷ 1_000 ∷ 2_500 ∷ []) ∷ [])
 
 -- "e, f. E: link 1 stored at 1,001; its next at 13,500 is policed, at 13,501 instead it passes"
 abbrev pub callsE : List Call
@@ -155,7 +171,7 @@ callsE = lent (frame 1_001 0 1 500) ∷ lent (frame 13_500 0 1 500) ∷ []
 abbrev pub e : Example
 e =
     gives-answers tableE callsE
-    (gives 0 0 0 [] ∷ gives 2 1 500 (1 ∷ 500 ∷ 1_501 ∷ []) ∷ [])
+    (gives 0 0 0 [] ∷ gives 2 1 480 (1 ∷ 500 ∷ 1_501 ∷ []) ∷ [])
 
 abbrev pub callsF : List Call
 callsF = lent (frame 1_001 0 1 500) ∷ lent (frame 13_501 0 1 500) ∷ []
@@ -163,17 +179,18 @@ callsF = lent (frame 1_001 0 1 500) ∷ lent (frame 13_501 0 1 500) ∷ []
 abbrev pub f : Example
 f =
     gives-answers tableE callsF
-    (gives 0 0 0 [] ∷ gives 0 1 500 (1 ∷ 500 ∷ 1_501 ∷ []) ∷ [])
+    (gives 0 0 0 [] ∷ gives 0 1 480 (1 ∷ 500 ∷ 1_501 ∷ []) ∷ [])
 
--- "g. Three links of 200, priority 0, one line: bound 399, hold 600. h. On three lines: bound 600". In g the line fills the buffer until 199
+-- "g. Three links of 200, priority 0, one line: bound 399, hold 600. h. On three lines": "example h has 540, and g keeps 399". In g the line
+-- fills the buffer until 219
 abbrev pub g : Example
-g = gives-bound (tableOf 1 (plain 0 0 0 200 ∷ plain 1 0 0 200 ∷ plain 2 0 0 200 ∷ []) []) 0 399 600 199
+g = gives-bound (tableOf 1 (plain 0 0 0 200 ∷ plain 1 0 0 200 ∷ plain 2 0 0 200 ∷ []) []) 0 399 600 219
 
 abbrev pub threeLines : List ℕ → Table
 threeLines sizes = tableOf 3 (plain 0 0 0 200 ∷ plain 1 1 0 200 ∷ plain 2 2 0 200 ∷ []) sizes
 
 abbrev pub h : Example
-h = gives-bound (threeLines []) 0 600 600 0
+h = gives-bound (threeLines []) 0 540 600 0
 
 -- "i, j. One line, priority 0, code 7: 42 links of 1,538 and one of 940 give hold 65,536; 941 instead gives 8"
 abbrev pub slow : ℕ → ℕ → VirtualLink
@@ -197,7 +214,7 @@ abbrev pub k : Example
 k =
     gives-bound
     (tableOf 1 (record { number = 0; line = 0; priority = 0; code = 0; least = 84; greatest = 100; jitter = 12_400 } ∷ []) [])
-    0 100 100 0
+    0 80 100 0
 
 -- l. one line: one link of 1,000 at priority 0, eight of 200 at priority 1
 abbrev pub l : Example
@@ -215,9 +232,9 @@ l =
     ∷ plain 8 0 1 200
     ∷ [])
     [])
-    1 1_199 2_600 999
+    1 1_199 2_600 1_019
 
--- m. size 500: the third of three frames of 200 is dropped while the first is leaving. n. Its link, charged for it, is then policed
+-- m. size 500: the third of three frames of 200, which would make 540, is dropped while the first is leaving. n. Its link, charged for it, is then policed
 abbrev pub tableN : Table
 tableN = threeLines (500 ∷ [])
 
@@ -232,13 +249,13 @@ callsN = lent (frame 1_000 0 0 200) ∷ lent (frame 1_100 1 1 200) ∷ lent (fra
 abbrev pub n : Example
 n =
     gives-answers tableN callsN
-    (gives 0 0 0 [] ∷ gives 0 0 0 [] ∷ gives 3 0 0 [] ∷ gives 2 2 400 (0 ∷ 200 ∷ 1_200 ∷ 1 ∷ 200 ∷ 1_400 ∷ []) ∷ [])
+    (gives 0 0 0 [] ∷ gives 0 0 0 [] ∷ gives 3 0 0 [] ∷ gives 2 2 360 (0 ∷ 200 ∷ 1_200 ∷ 1 ∷ 200 ∷ 1_400 ∷ []) ∷ [])
 
 -- o. link 1 stored at 1,001, policed at 13,500 and not charged for it, so stored at 14,000
 abbrev pub o : Example
 o =
     gives-answers tableE (lent (frame 1_001 0 1 500) ∷ lent (frame 13_500 0 1 500) ∷ lent (frame 14_000 0 1 500) ∷ [])
-    (gives 0 0 0 [] ∷ gives 2 1 500 (1 ∷ 500 ∷ 1_501 ∷ []) ∷ gives 0 0 0 [] ∷ [])
+    (gives 0 0 0 [] ∷ gives 2 1 480 (1 ∷ 500 ∷ 1_501 ∷ []) ∷ gives 0 0 0 [] ∷ [])
 
 -- p. a filtered frame of 500 on line 0 at 1,000 takes its line until then: link 1 with 500 at 1,499 is refused
 abbrev pub callsP : List Call
@@ -261,14 +278,14 @@ q =
     gives-answers tableQ callsQ
     (gives 1 0 0 [] ∷ gives 1 0 0 [] ∷ gives 1 0 0 [] ∷ gives 1 0 0 [] ∷ gives 0 0 0 [] ∷ [])
 
--- r. example d, then a wait at 3,000: 2 frames, 1,500 bytes
+-- r. example d, then a wait at 3,000: 2 frames, 1,460 bytes
 abbrev pub callsR : List Call
 callsR = lent (frame 1_000 1 2 1_000) ∷ lent (frame 1_000 0 1 500) ∷ lent (wait 3_000) ∷ []
 
 abbrev pub r : Example
 r =
     gives-answers tableE callsR
-    (gives 0 0 0 [] ∷ gives 0 0 0 [] ∷ gives 0 2 1_500 (1 ∷ 500 ∷ 1_500 ∷ 2 ∷ 1_000 ∷ 2_500 ∷ []) ∷ [])
+    (gives 0 0 0 [] ∷ gives 0 0 0 [] ∷ gives 0 2 1_460 (1 ∷ 500 ∷ 1_500 ∷ 2 ∷ 1_000 ∷ 2_500 ∷ []) ∷ [])
 
 -- s. a report that meets 13, 14 and 15, and one that meets 15 and 16
 abbrev pub s : Example
@@ -286,7 +303,7 @@ abbrev pub u : Example
 u =
     gives-answers (tableOf 3 (plain 1 0 0 500 ∷ plain 2 1 1 500 ∷ plain 3 2 1 500 ∷ []) (2_000 ∷ 2_000 ∷ []))
     (lent (frame 1_000 1 2 500) ∷ lent (frame 1_000 2 3 500) ∷ lent (frame 1_500 0 1 500) ∷ lent (wait 3_000) ∷ [])
-    (gives 0 0 0 [] ∷ gives 0 0 0 [] ∷ gives 0 1 500 (2 ∷ 500 ∷ 1_500 ∷ []) ∷ gives 0 2 1_000 (1 ∷ 500 ∷ 2_000 ∷ 3 ∷ 500 ∷ 2_500 ∷ []) ∷ [])
+    (gives 0 0 0 [] ∷ gives 0 0 0 [] ∷ gives 0 1 480 (2 ∷ 500 ∷ 1_500 ∷ []) ∷ gives 0 2 960 (1 ∷ 500 ∷ 2_000 ∷ 3 ∷ 500 ∷ 2_500 ∷ []) ∷ [])
 
 -- v. a link with jitter 12,416, which is B less 84: a frame of 500 at 1,000, and one of 84 at 1,084, while the first is leaving
 abbrev pub tableV : Table
@@ -296,7 +313,7 @@ abbrev pub callsV : List Call
 callsV = lent (frame 1_000 0 1 500) ∷ lent (frame 1_084 0 1 84) ∷ lent (wait 1_500) ∷ []
 
 abbrev pub v : Example
-v = gives-answers tableV callsV (gives 0 0 0 [] ∷ gives 0 0 0 [] ∷ gives 0 1 500 (1 ∷ 500 ∷ 1_500 ∷ []) ∷ [])
+v = gives-answers tableV callsV (gives 0 0 0 [] ∷ gives 0 0 0 [] ∷ gives 0 1 480 (1 ∷ 500 ∷ 1_500 ∷ []) ∷ [])
 
 -- w. a third frame at 1,168 instead of the wait is policed
 abbrev pub callsW : List Call
@@ -305,38 +322,90 @@ callsW = lent (frame 1_000 0 1 500) ∷ lent (frame 1_084 0 1 84) ∷ lent (fram
 abbrev pub w : Example
 w = gives-answers tableV callsW (gives 0 0 0 [] ∷ gives 0 0 0 [] ∷ gives 2 0 0 [] ∷ [])
 
+-- x. E with size 480 for priority 0: link 1 with 500 is stored, and the record stays fit, so that the next report is accepted. y. With size
+-- 479 it is dropped
+abbrev pub x : Example
+x =
+    gives-answers (sizedE 480) (lent (frame 1_000 0 1 500) ∷ lent (wait 1_500) ∷ [])
+    (gives 0 0 0 [] ∷ gives 0 1 480 (1 ∷ 500 ∷ 1_500 ∷ []) ∷ [])
+
+abbrev pub y : Example
+y = gives-answers (sizedE 479) (lent (frame 1_000 0 1 500) ∷ []) (gives 3 0 0 [] ∷ [])
+
+-- C. 24 lines: links 0 to 22 of 84 with jitter 125,000, a line each; on the last line link 23 of 84 with jitter 25,000, and link 24 of priority 1
+abbrev pub short : ℕ → ℕ → VirtualLink
+short number jitter = record { number = number; line = number; priority = 0; code = 0; least = 84; greatest = 84; jitter = jitter }
+
+unfoldable pub shortLinks : ℕ → List VirtualLink
+shortLinks zero = []
+shortLinks (suc n) = shortLinks n ++ (short n 125_000 ∷ [])
+
+abbrev pub tableC : Table
+tableC =
+    tableOf 24
+    (shortLinks 23 ++ (short 23 25_000 ∷ record { number = 24; line = 23; priority = 1; code = 7; least = 84; greatest = 1_538; jitter = 0 } ∷ []))
+    (16_384 ∷ 1_518 ∷ [])
+
+-- a report that is lent room for 256 frames
+abbrev pub lentRoom : Report → Call
+lentRoom r = record { report = r; list = replicate 768 7 }
+
+-- links 0 to n − 1 with 84 at a tick
+unfoldable pub burst : ℕ → ℕ → List Call
+burst tick zero = []
+burst tick (suc n) = burst tick n ++ (lentRoom (frame tick n n 84) ∷ [])
+
+-- from a tick on, bursts of all 23 lines, 84 ticks apart
+unfoldable pub bursts : ℕ → ℕ → List Call
+bursts tick zero = []
+bursts tick (suc n) = burst tick 23 ++ bursts (tick + 84) n
+
+-- link 24 of 1,538 at 2,000; links 0 to 22 at 2,001 + 84 × k, k from 0 to 10; link 23 at 2,084 + 84 × k, k from 0 to 2
+abbrev pub callsC : List Call
+callsC =
+    lentRoom (frame 2_000 23 24 1_538) ∷ burst 2_001 23
+    ++ (lentRoom (frame 2_084 23 23 84) ∷ burst 2_085 23)
+    ++ (lentRoom (frame 2_168 23 23 84) ∷ burst 2_169 23)
+    ++ (lentRoom (frame 2_252 23 23 84) ∷ bursts 2_253 8)
+
+abbrev pub boundC : Example
+boundC = gives-bound tableC 0 16_384 27_073 640
+
+abbrev pub filledC : Example
+filledC = fills tableC callsC 2_841 0 256 16_384
+
 -- ---- the words of demand 3, on lists of calls above
 abbrev pub holds : List Frame → ℕ → Holding
 holds frames most = record { frames = frames; most = most }
 
 -- d and r: what each buffer holds, and has held
 abbrev pub heldD0 : Example
-heldD0 = gives-held tableE callsD 0 (holds [] 0 ∷ holds (arrived 1 500 1_000 ∷ []) 500 ∷ holds [] 500 ∷ holds [] 500 ∷ [])
+heldD0 = gives-held tableE callsD 0 (holds [] 0 ∷ holds (arrived 1 500 1_000 ∷ []) 480 ∷ holds [] 480 ∷ holds [] 480 ∷ [])
 
 abbrev pub heldD1 : Example
 heldD1 =
     gives-held tableE callsD 1
-    (holds (arrived 2 1_000 1_000 ∷ []) 1_000 ∷ holds (arrived 2 1_000 1_000 ∷ []) 1_000 ∷ holds (arrived 2 1_000 1_000 ∷ []) 1_000 ∷ holds [] 1_000 ∷ [])
+    (holds (arrived 2 1_000 1_000 ∷ []) 980 ∷ holds (arrived 2 1_000 1_000 ∷ []) 980 ∷ holds (arrived 2 1_000 1_000 ∷ []) 980 ∷ holds [] 980 ∷ [])
 
 -- r: both leave with one report
 abbrev pub heldR1 : Example
-heldR1 = gives-held tableE callsR 1 (holds (arrived 2 1_000 1_000 ∷ []) 1_000 ∷ holds (arrived 2 1_000 1_000 ∷ []) 1_000 ∷ holds [] 1_000 ∷ [])
+heldR1 = gives-held tableE callsR 1 (holds (arrived 2 1_000 1_000 ∷ []) 980 ∷ holds (arrived 2 1_000 1_000 ∷ []) 980 ∷ holds [] 980 ∷ [])
 
 -- n: the dropped frame is not held
 abbrev pub heldN0 : Example
 heldN0 =
     gives-held tableN callsN 0
-    (holds (arrived 0 200 1_000 ∷ []) 200
-    ∷ holds (arrived 0 200 1_000 ∷ arrived 1 200 1_100 ∷ []) 400
-    ∷ holds (arrived 0 200 1_000 ∷ arrived 1 200 1_100 ∷ []) 400
-    ∷ holds [] 400
+    (holds (arrived 0 200 1_000 ∷ []) 180
+    ∷ holds (arrived 0 200 1_000 ∷ arrived 1 200 1_100 ∷ []) 360
+    ∷ holds (arrived 0 200 1_000 ∷ arrived 1 200 1_100 ∷ []) 360
+    ∷ holds [] 360
     ∷ [])
 
 -- v: of two frames of a link the older leaves
 abbrev pub heldV0 : Example
 heldV0 =
     gives-held tableV callsV 0
-    (holds (arrived 1 500 1_000 ∷ []) 500 ∷ holds (arrived 1 500 1_000 ∷ arrived 1 84 1_084 ∷ []) 584 ∷ holds (arrived 1 84 1_084 ∷ []) 584 ∷ [])
+    (holds (arrived 1 500 1_000 ∷ []) 480 ∷ holds (arrived 1 500 1_000 ∷ arrived 1 84 1_084 ∷ []) 544 ∷ holds (arrived 1 84 1_084 ∷ []) 544 ∷ [])
 
 -- e: link 1's second frame is policed. f: it passes
 abbrev pub fatesE : Example
@@ -378,9 +447,10 @@ breaksW = breaks tableV callsW 0
 
 -- windows. K: the bound of priority 0 is first reached when both links of its line have sent
 abbrev pub windowK : Example
-windowK = gives-bound (tableOf 2 (plain 1 0 0 200 ∷ plain 2 0 0 300 ∷ plain 3 1 1 1_000 ∷ []) []) 0 500 1_499 200
+windowK = gives-bound (tableOf 2 (plain 1 0 0 200 ∷ plain 2 0 0 300 ∷ plain 3 1 1 1_000 ∷ []) []) 0 460 1_499 180
 
--- P: six links of 200 on two lines. 400 ticks in, all have sent and 201 bytes of the 1,200 have left for good; A_p is never 999
+-- P: six links of 200 on two lines. 400 ticks in, all have sent: 1,200 wire bytes, less the 400 that have left, and 199 of a frame
+-- that is leaving. A_p is never 999
 abbrev pub windowP : Example
 windowP =
     gives-bound
@@ -392,35 +462,35 @@ abbrev pub late : ℕ → Table
 late jitter = tableOf 1 (record { number = 1; line = 0; priority = 0; code = 0; least = 84; greatest = 500; jitter = jitter } ∷ []) []
 
 abbrev pub windowO0 : Example
-windowO0 = gives-bound (late 12_000) 0 500 500 0
+windowO0 = gives-bound (late 12_000) 0 480 500 0
 
 abbrev pub windowO1 : Example
-windowO1 = gives-bound (late 12_001) 0 999 1_000 499
+windowO1 = gives-bound (late 12_001) 0 960 1_000 499
 
 -- Nt: three links of 200 on line 0 at priority 0, one of 100 on line 1 at priority 3; the priorities between keep their hold
 abbrev pub tableNt : Table
-tableNt = tableOf 2 (plain 1 0 0 200 ∷ plain 2 0 0 200 ∷ plain 3 0 0 200 ∷ plain 4 1 3 100 ∷ []) (500 ∷ 0 ∷ 0 ∷ 99 ∷ [])
+tableNt = tableOf 2 (plain 1 0 0 200 ∷ plain 2 0 0 200 ∷ plain 3 0 0 200 ∷ plain 4 1 3 100 ∷ []) (500 ∷ 0 ∷ 0 ∷ 79 ∷ [])
 
 abbrev pub windowNt0 : Example
-windowNt0 = gives-bound tableNt 0 498 699 298
+windowNt0 = gives-bound tableNt 0 498 699 318
 
 abbrev pub windowNt3 : Example
-windowNt3 = gives-bound tableNt 3 100 700 0
+windowNt3 = gives-bound tableNt 3 80 700 0
 
 abbrev pub sizingNt : Example
 sizingNt =
     gives-sizing tableNt
     (record {
       refused = 0;
-      bounds = 498 ∷ 0 ∷ 0 ∷ 100 ∷ replicate 4 0;
+      bounds = 498 ∷ 0 ∷ 0 ∷ 80 ∷ replicate 4 0;
       holds = 699 ∷ 699 ∷ 699 ∷ replicate 5 700;
-      windows = 298 ∷ replicate 7 0;
+      windows = 318 ∷ replicate 7 0;
     })
 
--- the sheet that the paper prints for table E, in the seven-column form
+-- the sheet that the paper prints for table E, in the seven-column form and the bytes that the buffer keeps
 abbrev pub printedE : String
 printedE =
-    "priority bound hold window size spare fill\n0 500 1499 0 2000 1500 250\n1 1000 1500 0 2000 1000 500\n2 0 1500 0 0 0 -\n3 0 1500 0 0 0 -\n4 0 1500 0 0 0 -\n5 0 1500 0 0 0 -\n6 0 1500 0 0 0 -\n7 0 1500 0 0 0 -\n"
+    "priority bound hold window size spare fill\n0 480 1499 0 2000 1520 240\n1 980 1500 0 2000 1020 490\n2 0 1500 0 0 0 -\n3 0 1500 0 0 0 -\n4 0 1500 0 0 0 -\n5 0 1500 0 0 0 -\n6 0 1500 0 0 0 -\n7 0 1500 0 0 0 -\n"
 
 abbrev pub sheetE : Example
 sheetE = gives-sheet tableE printedE
@@ -428,7 +498,7 @@ sheetE = gives-sheet tableE printedE
 -- that of table Nt, where a window is not 0 and a buffer is too small
 abbrev pub printedNt : String
 printedNt =
-    "priority bound hold window size spare fill\n0 498 699 298 500 2 996\n1 0 699 0 0 0 -\n2 0 699 0 0 0 -\n3 100 700 0 99 -1 1011\n4 0 700 0 0 0 -\n5 0 700 0 0 0 -\n6 0 700 0 0 0 -\n7 0 700 0 0 0 -\n"
+    "priority bound hold window size spare fill\n0 498 699 318 500 2 996\n1 0 699 0 0 0 -\n2 0 699 0 0 0 -\n3 80 700 0 79 -1 1013\n4 0 700 0 0 0 -\n5 0 700 0 0 0 -\n6 0 700 0 0 0 -\n7 0 700 0 0 0 -\n"
 
 abbrev pub sheetNt : Example
 sheetNt = gives-sheet tableNt printedNt
@@ -442,8 +512,8 @@ selections = map selects recordings
 
 abbrev pub examples : List Example
 examples =
-    a ∷ b ∷ c ∷ d ∷ e ∷ f ∷ g ∷ h ∷ i ∷ j ∷ k ∷ l ∷ m ∷ n ∷ o ∷ p ∷ q ∷ r ∷ s ∷ t ∷ u ∷ v ∷ w
-    ∷ sizingE ∷ windowK ∷ windowP ∷ windowO0 ∷ windowO1 ∷ windowNt0 ∷ windowNt3 ∷ sizingNt ∷ sheetE ∷ sheetNt ∷ (words ++ selections)
+    a ∷ b ∷ c ∷ d ∷ e ∷ f ∷ g ∷ h ∷ i ∷ j ∷ k ∷ l ∷ m ∷ n ∷ o ∷ p ∷ q ∷ r ∷ s ∷ t ∷ u ∷ v ∷ w ∷ x ∷ y
+    ∷ sizingE ∷ windowK ∷ windowP ∷ windowO0 ∷ windowO1 ∷ windowNt0 ∷ windowNt3 ∷ sizingNt ∷ boundC ∷ filledC ∷ sheetE ∷ sheetNt ∷ (words ++ selections)
 
 abbrev pub ExamplesCorrect : Type 0
 ExamplesCorrect = Each Correct examples

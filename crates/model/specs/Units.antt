@@ -12,13 +12,14 @@ leastLength = 84
 abbrev pub greatestLength : ℕ
 greatestLength = 1_538
 
--- "Buffers are counted in wire bytes too": what a frame of n wire bytes occupies of its buffer, which keeps all of them
+-- "a stored frame now occupies its length less 20": what a frame of n wire bytes occupies of its buffer, which keeps the Ethernet frame
+-- alone, without preamble and gap
 abbrev pub unkept : ℕ
-unkept = 0
+unkept = 20
 
 unfoldable pub occupied : ℕ → ℕ
 occupied n = n - unkept
 
--- "no queue counts above 195 frames": 16,384 / 84
+-- "A buffer may now contain 256 frames, and fitness allows a queue as many": 16,384 / 64
 abbrev pub mostFrames : ℕ
-mostFrames = 195
+mostFrames = 256

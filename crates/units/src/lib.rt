@@ -16,11 +16,11 @@ pub const LEAST_LENGTH: u16 = 84;
 
 pub const GREATEST_LENGTH: u16 = 1538;
 
-// The bytes of a frame on the wire that its buffer does not keep.
-pub const UNKEPT: u64 = 0;
+// The bytes of a frame on the wire that its buffer does not keep: preamble and gap.
+pub const UNKEPT: u64 = 20;
 
 // No queue counts more frames.
-pub const MOST_FRAMES: usize = 195;
+pub const MOST_FRAMES: usize = 256;
 
 // What eight full queues hold, and the length of a departure list that has room for it, three numbers each.
 pub const MOST_HELD: usize = 8 * MOST_FRAMES;
