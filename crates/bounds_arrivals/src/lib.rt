@@ -72,9 +72,10 @@ pub fn loads_of(t: Table, w: u64, low: u8, high: u8, cut: u64) -> Loads
         let l = t.links[i];
         if member(l, low, high) {
             let k = l.line as usize;
-            let x = excess(u16_as_u64(l.greatest), cut);
-            sums[k] = sums[k] + x * frames(l, w);
-            tops[k] = larger(tops[k], x);
+            let wire = u16_as_u64(l.greatest);
+            let kept = excess(wire, cut);
+            sums[k] = sums[k] + kept * frames(l, w);
+            tops[k] = larger(tops[k], kept);
         }
         i += 1;
     }

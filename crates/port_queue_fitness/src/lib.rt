@@ -81,7 +81,9 @@ fn load_fits(t: Table, guesses: &[u8; 1024], q: Queue, priority: u8, clock: u64)
             return false;
         }
         low = f.arrival;
-        sum += units::occupancy(f.length);
+        let wire = u16_as_u64(f.length);
+        let kept = units::occupancy(wire);
+        sum += kept;
         i += 1;
     }
     sum <= u32_as_u64(q.mark)

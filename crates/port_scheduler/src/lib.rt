@@ -48,7 +48,7 @@ pub fn held(q: Queue) -> u64
     let mut sum: u64 = 0;
     let mut i: usize = 0;
     while i < n {
-        sum += occupancy(q.frames[i].length);
+        sum += occupancy(u16_as_u64(q.frames[i].length));
         i += 1;
     }
     sum
@@ -146,18 +146,19 @@ pub fn advance(
         let i = p as usize;
         let q = queues[i];
         let f = q.frames[0];
-        let length = u16_as_u64(f.length);
-        let end = start + length;
+        let wire = u16_as_u64(f.length);
+        let end = start + wire;
         if time < end {
             break;
         }
-        put(list, 3 * frames, u16_as_u64(f.number), length, end);
+        put(list, 3 * frames, u16_as_u64(f.number), wire, end);
         let rest = without_head(q);
         queues[i] = rest;
         sender = Sender::Idle;
         tick = end;
         frames += 1;
-        bytes += occupancy(f.length);
+        let kept = occupancy(wire);
+        bytes += kept;
     }
     Moved {
         queues,

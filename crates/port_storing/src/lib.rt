@@ -1,4 +1,5 @@
 // Internal to the product: a frame that passed the police check, stored or dropped.
+use numbers::u16_as_u64;
 use numbers::u32_as_u64;
 use port_scheduler::Frame;
 use port_scheduler::Queue;
@@ -63,7 +64,8 @@ pub fn settle(queue: Queue, size: u32, f: Frame) -> Settled
     ensures { λ r. ⌜ Settles queue size f r ⌝ }
 {
     let held = port_scheduler::held(queue);
-    let more = units::occupancy(f.length);
+    let wire = u16_as_u64(f.length);
+    let more = units::occupancy(wire);
     if !has_room(held, more, u32_as_u64(size)) {
         return Settled { verdict: 3, queue };
     }

@@ -36,9 +36,9 @@ pub fn is_length(bytes: u64) -> bool
     bytes <= u16_as_u64(GREATEST_LENGTH)
 }
 
-// What a frame takes of its buffer.
-pub fn occupancy(length: u16) -> u64
-    ensures { λ r. ⌜ (r ≡ occupied length) × (r ≤ 65535) ⌝ }
+// What a frame of so many wire bytes takes of its buffer.
+pub fn occupancy(wire: u64) -> u64
+    ensures { λ r. ⌜ (r ≡ occupied wire) × (r ≤ wire) ⌝ }
 {
-    excess(u16_as_u64(length), UNKEPT)
+    excess(wire, UNKEPT)
 }

@@ -1,9 +1,10 @@
 use borrow.Author.Needs.{needs}
-use mathlib.Core.Path.{_≡_, refl, _∙_}
+use mathlib.Core.Path.{_≡_, refl, ap, _∙_}
 use Prim.Native.Nat.{_-_, _*_, _≤_}
 use native.Mathlib.Omega.{arith}
 use borrow.Author.Tests.{not-true, not-false}
 use lib.ListN.{drop}
+use Rattle.model.specs.Units.{occupied}
 use Rattle.model.specs.Fitness.{framesFit}
 use Rattle.table.specs.View.{viewTable}
 use Rattle.table.proofs.PassingRecord.{counts-pass}
@@ -84,6 +85,9 @@ returns-2 c =
     let w = queue-whole (start .args .t3) _ (start .good .1 .1 .0) in
     unfit (start .args .t1) (start .args .t3) (start .args .priority) (start .args .clock) (loop .low) (loop .i) (loop .inv .2) (start .pre .0) (omega arith) (omega arith) _ refl _ (c .before .before .before .before .before .before .place-near .ensures) _ (c .before .before .before .before .place .given .1) _ (c .before .frame-fits .ensures) (not-true (c .before .frame-fits .result) (c .if1 .taken))
 
+u16-as-u64-requires : tie.Need-u16-as-u64-requires Inv-loop μ-loop
+u16-as-u64-requires c κs = search needs
+
 occupancy-requires : tie.Need-occupancy-requires Inv-loop μ-loop
 occupancy-requires c κs = search needs
 
@@ -98,15 +102,15 @@ loop-less c = omega arith
 
 loop-again : tie.Need-loop-again Inv-loop μ-loop
 loop-again c =
-    let start = c .before .before .before .before .before .before .before .before .before .before .before .before .before .before .before in
-    let loop = c .before .before .before .before .before .before .before .before .before .before .before .before .before .before .loop in
+    let start = c .before .before .before .before .before .before .before .before .before .before .before .before .before .before .before .before in
+    let loop = c .before .before .before .before .before .before .before .before .before .before .before .before .before .before .before .loop in
     let w = queue-whole (start .args .t3) _ (start .good .1 .1 .0) in
     let more = bytes-more (start .args .t3 .frames) (loop .i) (omega arith) in (
       omega arith,
       refl,
-      goes-on (start .args .t1) (start .args .t3) (start .args .priority) (start .args .clock) (loop .low) (loop .i) (loop .inv .2) (start .pre .0) (omega arith) (omega arith) _ refl _ (c .before .before .before .before .before .before .before .place-near .ensures) _ (c .before .before .before .before .before .place .given .1) _ (c .before .before .frame-fits .ensures) (not-false (c .before .before .frame-fits .result) (c .before .if1 .left)),
+      goes-on (start .args .t1) (start .args .t3) (start .args .priority) (start .args .clock) (loop .low) (loop .i) (loop .inv .2) (start .pre .0) (omega arith) (omega arith) _ refl _ (c .before .before .before .before .before .before .before .before .place-near .ensures) _ (c .before .before .before .before .before .before .place .given .1) _ (c .before .before .before .frame-fits .ensures) (not-false (c .before .before .before .frame-fits .result) (c .before .before .if1 .left)),
       omega arith,
-      omega arith,
+      omega (arith, ap occupied (c .before .u16-as-u64 .ensures .0)),
     )
 
 u32-as-u64-requires : tie.Need-u32-as-u64-requires Inv-loop μ-loop
@@ -140,6 +144,7 @@ load-fits-spec =
     element-copy-out-link
     frame-fits-requires
     returns-2
+    u16-as-u64-requires
     occupancy-requires
     add-sum
     add-i

@@ -4,7 +4,7 @@ use mathlib.Core.Path.{_≡_, sym, ap, _∙_}
 use Prim.Native.Nat.{_≤_}
 use native.Mathlib.Omega.{arith}
 use lib.ListN.{getD}
-use Rattle.model.specs.Units.{lastTick, occupied}
+use Rattle.model.specs.Units.{lastTick}
 use Rattle.model.specs.Machine.{Frame, headOf, framesHeld}
 use Rattle.port_scheduler.specs.View.{viewFrame, blankEntry, blankQueue, viewQueues, viewMarks}
 use Rattle.port_scheduler.specs.Contracts.{advanceFrom}
@@ -99,7 +99,7 @@ loop-again c =
     let h = head (c .before .before .before .before .before .before .before .before .before .before .before) in
     let le = c .before .before .before .before .before .before .before .before .u16-as-u64 .ensures .0 in (
       one-more (c .before .before .before .before .before .before .before .before .before .before .before .before .before .before .before .loop .inv .0) (c .before .before .before .before .before .before .before .before .before .before .before .before .before .before .sender-from .ensures) (c .before .before .before .before .before .before .before .before .before .before .before .before .sender .given .1) (le ∙ sym (ap (λ (f : Frame). f .length) h))
-          (c .before .before .before .before .before .u16-as-u642 .ensures .0 ∙ sym (ap (λ (f : Frame). f .number) h)) (c .occupancy .ensures .0 ∙ sym (ap occupied le)) (c .occupancy .ensures .1)
+          (c .before .before .before .before .before .u16-as-u642 .ensures .0 ∙ sym (ap (λ (f : Frame). f .number) h)) (c .occupancy .ensures .0) (omega (arith, c .occupancy .ensures .1, c .before .before .before .before .before .before .before .before .u16-as-u64 .ensures .1))
           (c .before .before .before .before .before .before .before .if1 .left) (c .before .without-head .ensures) (c .before .before .before .before .put .ensures) (c .before .before .before .before .put .kept .0),
       c .before .before .before .before .before .before .before .before .before .before .before .before .before .before .before .loop .inv .1,
     )

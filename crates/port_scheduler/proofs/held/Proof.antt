@@ -1,8 +1,9 @@
 -- The sum is that of the frames before i.
-use mathlib.Core.Path.{_≡_, refl, _∙_}
+use mathlib.Core.Path.{_≡_, refl, ap, _∙_}
 use Prim.Native.Nat.{_-_, _*_, _≤_}
 use native.Mathlib.Omega.{arith}
 use borrow.Author.Needs.{needs}
+use Rattle.model.specs.Units.{occupied}
 use Rattle.port_scheduler.proofs.Shape.{queue-whole}
 use Rattle.port_scheduler.proofs.Sums.{bytesBefore, bytes-none, bytes-more, bytes-all}
 use Rattle.port_scheduler.proofs.held.Statement.{statement}
@@ -20,11 +21,14 @@ cast-n c = omega arith
 loop-holds : tie.Need-loop-holds Inv-loop μ-loop
 loop-holds c = (omega arith, refl, omega arith, bytes-none (c .args .t1 .frames))
 
-mul-occupancy : tie.Need-mul-occupancy Inv-loop μ-loop
-mul-occupancy c = omega arith
+mul-u16-as-u64 : tie.Need-mul-u16-as-u64 Inv-loop μ-loop
+mul-u16-as-u64 c = omega arith
 
-element-copy-out-occupancy : tie.Need-element-copy-out-occupancy Inv-loop μ-loop
-element-copy-out-occupancy c = omega arith
+element-copy-out-u16-as-u64 : tie.Need-element-copy-out-u16-as-u64 Inv-loop μ-loop
+element-copy-out-u16-as-u64 c = omega arith
+
+u16-as-u64-requires : tie.Need-u16-as-u64-requires Inv-loop μ-loop
+u16-as-u64-requires c κs = search needs
 
 occupancy-requires : tie.Need-occupancy-requires Inv-loop μ-loop
 occupancy-requires c κs = search needs
@@ -40,10 +44,10 @@ loop-less c = omega arith
 
 loop-again : tie.Need-loop-again Inv-loop μ-loop
 loop-again c =
-    let start = c .before .before .before in
+    let start = c .before .before .before .before in
     let w = queue-whole (start .args .t1) _ (start .good .0) in
-    let more = bytes-more (start .args .t1 .frames) (c .before .before .loop .i) (omega arith) in
-    (omega arith, refl, omega arith, omega arith)
+    let more = bytes-more (start .args .t1 .frames) (c .before .before .before .loop .i) (omega arith) in
+    (omega arith, refl, omega arith, omega (arith, ap occupied (c .before .u16-as-u64 .ensures .0)))
 
 returns : tie.Need-returns Inv-loop μ-loop
 returns c =
@@ -59,8 +63,9 @@ held-spec =
     μ-loop
     cast-n
     loop-holds
-    mul-occupancy
-    element-copy-out-occupancy
+    mul-u16-as-u64
+    element-copy-out-u16-as-u64
+    u16-as-u64-requires
     occupancy-requires
     add-sum
     add-i

@@ -4,9 +4,6 @@ use borrow.Author.Needs.{needs}
 use Rattle.units.proofs.occupancy.Statement.{statement}
 use Rattle.units.proofs.occupancy.Tie as tie
 
-u16-as-u64-requires : tie.Need-u16-as-u64-requires
-u16-as-u64-requires c κs = search needs
-
 excess-requires : tie.Need-excess-requires
 excess-requires c κs = search needs
 
@@ -15,4 +12,4 @@ unfolding occupied
 returns c = omega arith
 
 pub occupancy-spec : {M : Type 1} → statement M
-occupancy-spec = tie.close (tie.spec u16-as-u64-requires excess-requires returns)
+occupancy-spec = tie.close (tie.spec excess-requires returns)
