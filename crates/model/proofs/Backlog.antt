@@ -91,4 +91,4 @@ level-bound t p hold X Y st k l x y = go (anyOf (ofPriority p) (t .links)) refl 
         none m = omega (arith, m .positive, m .short, empty)
           where
             empty : longest t p ≡ 0
-            empty = greatest-none (ofPriority p) (λ v. v .greatest) (t .links) e
+            empty = omega (arith, greatest-none (ofPriority p) (λ v. v .greatest) (t .links) e)

@@ -20,7 +20,7 @@ use Rattle.model.proofs.Curves.{curve-grows}
 
 pub up-grows : (t : Table) (p x y : ℕ) → x ≤ y → upArrivals t p x ≤ upArrivals t p y
 unfolding upArrivals
-up-grows t p x y l = curve-grows (λ n. n) (upTo p) (t .lines) (t .links) x y l
+up-grows t p x y l = curve-grows _ (upTo p) (t .lines) (t .links) x y l
 
 pub hold-is : (t : Table) (p w : ℕ) → holdOf t p ≡ some w → IsHold t p w
 unfolding holdOf holdBy holdTest

@@ -18,7 +18,7 @@ total-requires : tie.Need-total-requires
 total-requires c κs =
     let s = c .before .before in
     let few = counts-pass (s .args .t) (s .pre .0) .lines-most in
-    (omega arith, s .pre .1, tops-few (s .args .t) (s .pre .0) (between (s .args .low) (s .args .high)) 0 (s .args .w) (s .pre .1) (c .before .loads-of .result) (c .before .loads-of .ensures))
+    (omega arith, s .pre .1, tops-few (s .args .t) (s .pre .0) (between (s .args .low) (s .args .high)) _ (s .args .w) (s .pre .1) (c .before .loads-of .result) (c .before .loads-of .ensures))
 
 returns : tie.Need-returns
 returns c =
