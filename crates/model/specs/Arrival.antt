@@ -15,8 +15,8 @@ unfoldable pub onLine : (VirtualLink → Bool) → ℕ → VirtualLink → Bool
 onLine set ℓ v = set v && eqb (v .line) ℓ
 
 -- "the smaller of: the sum of L × N_v(w) over its members on that line; and w plus the greatest L of those members
--- (serialization). A line without members adds 0". A frame of L wire bytes counts for weight L in both: for what it occupies of a buffer
--- in A_p ("L becomes L − 20 in both members of the smaller-of"), for itself in A_up
+-- (serialization). A line without members adds 0". A frame of L wire bytes counts for weight L in both members: for what it occupies of
+-- a buffer in A_p, for itself in A_up
 unfoldable pub lineCurve : (ℕ → ℕ) → (VirtualLink → Bool) → List VirtualLink → ℕ → ℕ → ℕ
 lineCurve weight set links ℓ w =
     provided (anyOf (onLine set ℓ) links)

@@ -21,11 +21,11 @@ upTo p v = leb (v .priority) p
 unfoldable pub beyond : ℕ → VirtualLink → Bool
 beyond p v = ltb p (v .priority)
 
--- "A_p takes the links of priority p", counted as they occupy the buffer
+-- "A_p takes the links of priority p": "L becomes L − 20 in both members of the smaller-of"
 unfoldable pub ownArrivals : Table → ℕ → ℕ → ℕ
 ownArrivals t p w = arrivalCurve occupied (ofPriority p) (t .lines) (t .links) w
 
--- "A_up those of priority 0 to p", in wire bytes
+-- "A_up those of priority 0 to p": "the other amount, with A_up, b and M, keeps wire bytes, and so does every hold"
 unfoldable pub upArrivals : Table → ℕ → ℕ → ℕ
 upArrivals t p w = arrivalCurve (λ n. n) (upTo p) (t .lines) (t .links) w
 

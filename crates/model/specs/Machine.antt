@@ -106,7 +106,7 @@ queuedLast queues p f = set queues p (queueOf queues p ++ (f ∷ []))
 abbrev pub stored : Scheduler → ℕ → Frame → Scheduler
 stored s p f = at (s .clock) (queuedLast (s .queues) p f) (s .sender)
 
--- the sum over frames of a weight on their lengths; "held bytes" is that of what they occupy
+-- the sum over frames of a weight on their lengths; "held bytes" are what they occupy
 unfoldable pub bytes : (ℕ → ℕ) → List Frame → ℕ
 bytes weight [] = 0
 bytes weight (f ∷ frames) = weight (f .length) + bytes weight frames

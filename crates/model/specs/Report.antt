@@ -111,7 +111,7 @@ policeAt B J g i time =
 
 -- ---- the store: it changes the scheduler and the marks alone
 
--- not "held bytes + length exceed the size": size, queue, frame
+-- not "held bytes + length exceed the size", the length being what the frame occupies: size, queue, frame
 unfoldable pub hasRoom : ℕ → List Frame → Frame → Bool
 hasRoom size queue f = leb (held queue + occupied (f .length)) size
 
@@ -181,6 +181,7 @@ threeNumbers d = d .number ∷ d .length ∷ d .freed ∷ []
 abbrev pub listed : List Departure → List ℕ → List ℕ
 listed departures list = flatMap threeNumbers departures ++ drop (3 * length departures) list
 
+-- "bytes freed": what the frames occupied
 unfoldable pub bytesFreed : List Departure → ℕ
 bytesFreed [] = 0
 bytesFreed (d ∷ departures) = occupied (d .length) + bytesFreed departures

@@ -12,8 +12,8 @@ leastLength = 84
 abbrev pub greatestLength : ℕ
 greatestLength = 1_538
 
--- "a stored frame now occupies its length less 20": what a frame of n wire bytes occupies of its buffer, which keeps the Ethernet frame
--- alone, without preamble and gap
+-- "a stored frame now occupies its length less 20. Held bytes, marks, sizes, the dropped verdict, bytes freed and the mended bound all count
+-- so": what a frame of n wire bytes occupies of its buffer, which keeps the Ethernet frame without preamble and gap
 abbrev pub unkept : ℕ
 unkept = 20
 

@@ -11,7 +11,7 @@ use Rattle.port_scheduler.specs.declared.Queue.{Queue}
 use Rattle.port_scheduler.specs.View.{viewFrame, viewQueue}
 use Rattle.port_storing.specs.declared.Settled.{Settled}
 
--- "dropped (3): .. held bytes + length exceed the size"; "stored (0): otherwise"
+-- "dropped (3): .. held bytes + length exceed the size", the length being what the frame occupies; "stored (0): otherwise"
 unfoldable pub verdictIf : Bool → ℕ
 verdictIf true = 0
 verdictIf false = 3
