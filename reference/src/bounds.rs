@@ -1,5 +1,6 @@
 //! The paper's "Bounds and holds", formula by formula, with a loop over every w.
 
+use crate::memory::occupied;
 use crate::table::{bag, check, Link, Table};
 
 /// The smallest and the largest w that can be a hold.
@@ -8,6 +9,16 @@ const HOLDS: std::ops::RangeInclusive<u64> = 1..=65_536;
 /// "For w ≥ 0, N_v(w) = 1 + floor((w + J) / B)."
 fn frames(link: &Link, w: u64) -> u64 {
     1 + (w + u64::from(link.jitter)) / bag(link.code)
+}
+
+/// L, in wire bytes: "the other amount, with A_up, b and M, keeps wire bytes, and so does every hold".
+fn on_the_wire(link: &Link) -> u64 {
+    u64::from(link.greatest)
+}
+
+/// "In A_p, L becomes L − 20 in both members of the smaller-of".
+fn in_memory(link: &Link) -> u64 {
+    occupied(u64::from(link.greatest))
 }
 
 /// A set of virtual links: for each line, its members there.
@@ -28,11 +39,11 @@ impl Set {
 
     /// "A(w) is the sum over lines of the smaller of: the sum of L × N_v(w) over its members on that
     /// line; and w plus the greatest L of those members (serialization). A line without members adds 0."
-    fn arrivals(&self, w: u64) -> u64 {
+    fn arrivals(&self, w: u64, l: fn(&Link) -> u64) -> u64 {
         let mut sum = 0;
         for members in &self.by_line {
-            let asked: u64 = members.iter().map(|v| u64::from(v.greatest) * frames(v, w)).sum();
-            let carried = members.iter().map(|v| w + u64::from(v.greatest)).max().unwrap_or(0);
+            let asked: u64 = members.iter().map(|v| l(v) * frames(v, w)).sum();
+            let carried = members.iter().map(|v| w + l(v)).max().unwrap_or(0);
             sum += asked.min(carried);
         }
         sum
@@ -41,7 +52,7 @@ impl Set {
 
 /// The greatest L of the links that the test takes, or 0 if there are none.
 fn greatest(table: &Table, takes: impl Fn(&Link) -> bool) -> u64 {
-    table.members().iter().filter(|v| takes(v)).map(|v| u64::from(v.greatest)).max().unwrap_or(0)
+    table.members().iter().filter(|v| takes(v)).map(on_the_wire).max().unwrap_or(0)
 }
 
 /// "b is the greatest L of priorities above p in number, less 1, or 0 if there are none."
@@ -53,7 +64,7 @@ fn blocking(table: &Table, p: u8) -> u64 {
 fn hold(table: &Table, p: u8) -> Option<u64> {
     let up = Set::new(table, |v| v.priority <= p);
     let b = blocking(table, p);
-    HOLDS.into_iter().find(|w| b + up.arrivals(w - 1) <= *w)
+    HOLDS.into_iter().find(|w| b + up.arrivals(w - 1, on_the_wire) <= *w)
 }
 
 /// For each w from 0 to hold_p − 1, "the smaller of A_p(w) and A_up(w) − max(0, w − b) + M − 1"; none
@@ -66,7 +77,8 @@ fn amounts(table: &Table, p: u8, hold: u64) -> Vec<u64> {
     if m == 0 {
         return Vec::new();
     }
-    (0..hold).map(|w| own.arrivals(w).min(up.arrivals(w) - w.saturating_sub(b) + m - 1)).collect()
+    let other = |w: u64| up.arrivals(w, on_the_wire) - w.saturating_sub(b) + m - 1;
+    (0..hold).map(|w| own.arrivals(w, in_memory).min(other(w))).collect()
 }
 
 /// "bound_p is the greatest, over w from 0 to hold_p − 1 .. With no link of priority p it is 0."
@@ -110,7 +122,7 @@ pub fn bounds(table: &Table) -> Result<Bounds, u32> {
 mod tests {
     use super::*;
     use crate::cases::make::table_of;
-    use crate::examples::{link, table_e};
+    use crate::examples::{link, table_c, table_e};
 
     /// Bound, hold and window.
     fn three(lines: u16, links: &[Link], p: usize) -> (u64, u64, u64) {
@@ -121,7 +133,7 @@ mod tests {
     #[test]
     fn a_and_b() {
         let found = bounds(&table_e()).expect("a table with bounds");
-        assert_eq!(found.bounds, [500, 1_000, 0, 0, 0, 0, 0, 0]);
+        assert_eq!(found.bounds, [480, 980, 0, 0, 0, 0, 0, 0]);
         assert_eq!(found.holds, [1_499, 1_500, 1_500, 1_500, 1_500, 1_500, 1_500, 1_500]);
         assert_eq!(found.windows, [0; 8]);
     }
@@ -130,8 +142,8 @@ mod tests {
     fn g_and_h() {
         let on = |line| link(u16::from(line), line, 0, 200);
         let one_line = [0, 1, 2].map(|number| Link { line: 0, ..on(number) });
-        assert_eq!(three(1, &one_line, 0), (399, 600, 199));
-        assert_eq!(three(3, &[on(0), on(1), on(2)], 0), (600, 600, 0));
+        assert_eq!(three(1, &one_line, 0), (399, 600, 219));
+        assert_eq!(three(3, &[on(0), on(1), on(2)], 0), (540, 600, 0));
     }
 
     /// 42 links of 1,538 and one of another length, code 7, on one line.
@@ -151,30 +163,43 @@ mod tests {
     #[test]
     fn k() {
         let late = Link { jitter: 12_400, ..link(1, 0, 0, 100) };
-        assert_eq!(three(1, &[late], 0), (100, 100, 0));
+        assert_eq!(three(1, &[late], 0), (80, 100, 0));
     }
 
     #[test]
     fn l() {
         let mut links: Vec<Link> = (1..9).map(|number| link(number, 0, 1, 200)).collect();
         links.insert(0, link(0, 0, 0, 1_000));
-        assert_eq!(three(1, &links, 1), (1_199, 2_600, 999));
+        assert_eq!(three(1, &links, 1), (1_199, 2_600, 1_019));
     }
 
     #[test]
     fn windows() {
         let k = [link(1, 0, 0, 200), link(2, 0, 0, 300), link(3, 1, 1, 1_000)];
-        assert_eq!(three(2, &k, 0), (500, 1_499, 200));
+        assert_eq!(three(2, &k, 0), (460, 1_499, 180));
         let late = |jitter| [Link { jitter, ..link(1, 0, 0, 500) }];
-        assert_eq!(three(1, &late(12_000), 0), (500, 500, 0));
-        assert_eq!(three(1, &late(12_001), 0), (999, 1_000, 499));
+        assert_eq!(three(1, &late(12_000), 0), (480, 500, 0));
+        assert_eq!(three(1, &late(12_001), 0), (960, 1_000, 499));
+        assert_eq!(three(1, &late(12_019), 0), (960, 1_000, 481));
+        for jitter in [12_020, 12_021, 12_500] {
+            assert_eq!(three(1, &late(jitter), 0), (960, 1_000, 480));
+        }
         let two_lines = [1, 2, 3, 4, 5, 6].map(|number| link(number, u8::from(number > 3), 0, 200));
         assert_eq!(three(2, &two_lines, 0), (999, 1_200, 400));
         let nt = [link(1, 0, 0, 200), link(2, 0, 0, 200), link(3, 0, 0, 200), link(4, 1, 3, 100)];
         let found = bounds(&table_of(2, &nt, [0; 8])).expect("a table with bounds");
-        assert_eq!(found.bounds, [498, 0, 0, 100, 0, 0, 0, 0]);
+        assert_eq!(found.bounds, [498, 0, 0, 80, 0, 0, 0, 0]);
         assert_eq!(found.holds, [699, 699, 699, 700, 700, 700, 700, 700]);
-        assert_eq!(found.windows, [298, 0, 0, 0, 0, 0, 0, 0]);
+        assert_eq!(found.windows, [318, 0, 0, 0, 0, 0, 0, 0]);
+    }
+
+    /// A bound of 16,384: 256 frames of 64 bytes each.
+    #[test]
+    fn the_bound_of_table_c() {
+        let found = bounds(&table_c()).expect("a table with bounds");
+        assert_eq!((found.bounds[0], found.holds[0], found.windows[0]), (16_384, 27_073, 640));
+        assert_eq!((found.bounds[1], found.windows[1]), (1_518, 0));
+        assert_eq!(found.bounds[2..], [0; 6]);
     }
 
     /// The search itself: the first of several greatest, the last place, a single place, none.

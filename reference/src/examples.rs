@@ -1,6 +1,7 @@
-//! Tables that the paper's marked examples name.
+//! Tables that the paper's marked examples name, and one whose bound takes 256 frames.
 
 use crate::cases::make::table_of;
+use crate::port::Arrival;
 use crate::table::{Link, Table};
 
 /// "All codes and jitter 0 unless named": a link of lengths 84 to `greatest`.
@@ -12,4 +13,24 @@ pub fn link(number: u16, line: u8, priority: u8, greatest: u16) -> Link {
 /// lengths 84 to 1,000; codes and jitter 0; sizes 2,000, 2,000, then 0)"
 pub fn table_e() -> Table {
     table_of(2, &[link(1, 0, 0, 500), link(2, 1, 1, 1_000)], [2_000, 2_000, 0, 0, 0, 0, 0, 0])
+}
+
+/// 24 lines, with a link of 84 on each: links 0 to 22 may send 11 frames at once, link 23 three; on its line
+/// link 24, whose frame of 1,538 they wait behind.
+pub fn table_c() -> Table {
+    let mut links: Vec<Link> = (0..24).map(|k| Link { jitter: 125_000, ..link(k, k as u8, 0, 84) }).collect();
+    links[23].jitter = 25_000;
+    links.push(Link { code: 7, ..link(24, 23, 1, 1_538) });
+    table_of(24, &links, [16_384, 1_518, 0, 0, 0, 0, 0, 0])
+}
+
+/// Table C's 257 frames, in order of ticks: link 24's at 2,000, then 256 of 84 while it leaves.
+pub fn filled_c() -> Vec<(u64, Arrival)> {
+    let mut frames = vec![(2_000, Arrival { line: 23, number: 24, length: 1_538 })];
+    for k in 0..11 {
+        frames.extend((0..23).map(|line| (2_001 + 84 * k, Arrival { line, number: line, length: 84 })));
+    }
+    frames.extend((0..3).map(|k| (2_084 + 84 * k, Arrival { line: 23, number: 23, length: 84 })));
+    frames.sort_by_key(|(tick, _)| *tick);
+    frames
 }

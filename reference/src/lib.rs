@@ -6,6 +6,7 @@
 pub mod bounds;
 pub mod cases;
 pub mod examples;
+pub mod memory;
 pub mod port;
 pub mod random;
 pub mod record;

@@ -1,12 +1,13 @@
 //! The paper's "The tick machine": the port, tick by tick; fitness; refusals 10 to 16; verdicts.
 
+use crate::memory::occupied;
 use crate::table::{bag, check, Link, Table};
 
 /// "A port clock runs from 0 to 2^48 − 1."
 pub const LAST_TICK: u64 = (1 << 48) - 1;
 
-/// "no queue counts above 195 frames"
-pub const MOST_FRAMES: usize = 195;
+/// "A buffer may now contain 256 frames, and fitness allows a queue as many."
+pub const MOST_FRAMES: usize = 256;
 
 pub const FILTERED: u64 = 1;
 pub const POLICED: u64 = 2;
@@ -29,8 +30,9 @@ pub struct Queue {
 }
 
 impl Queue {
+    /// "Held bytes, marks, sizes, the dropped verdict, bytes freed .. all count so": a frame's length less 20.
     pub fn held(&self) -> u64 {
-        self.frames.iter().map(|frame| frame.length).sum()
+        self.frames.iter().map(|frame| occupied(frame.length)).sum()
     }
 }
 
@@ -129,7 +131,7 @@ impl Port {
             && self.sending_is_fit()
     }
 
-    /// "no queue counts above 195 frames; queued frames name links of their priority within length
+    /// "fitness allows a queue as many", 256 frames; "queued frames name links of their priority within length
     /// limits, arrival ticks rise or stay equal and are ≤ clock; each held sum ≤ mark ≤ size"
     fn queue_is_fit(&self, p: usize) -> bool {
         let queue = &self.queues[p];
@@ -263,8 +265,8 @@ impl Port {
         }
         let p = usize::from(self.table.links[i].priority);
         let queue = &mut self.queues[p];
-        // "dropped (3): .. held bytes + length exceed the size"
-        if queue.held() + frame.length > u64::from(self.table.sizes[p]) {
+        // "dropped (3): .. held bytes + length exceed the size", where "the dropped verdict" counts length less 20
+        if queue.held() + occupied(frame.length) > u64::from(self.table.sizes[p]) {
             return DROPPED;
         }
         // "stored (0): otherwise; queued last, and the mark rises to the held bytes if they are more"
@@ -288,7 +290,7 @@ impl Port {
             Some(frame) => self.judge(report.tick, frame),
             None => 0,
         };
-        let bytes = left.iter().map(|[_, length, _]| length).sum();
+        let bytes = left.iter().map(|[_, length, _]| occupied(*length)).sum();
         Ok(Answer { verdict, frames: left.len() as u64, bytes })
     }
 }
@@ -297,7 +299,7 @@ impl Port {
 mod tests {
     use super::*;
     use crate::cases::make::table_of;
-    use crate::examples::{link, table_e};
+    use crate::examples::{filled_c, link, table_c, table_e};
 
     struct Run {
         port: Port,
@@ -333,8 +335,9 @@ mod tests {
         let mut run = Run::of(&table_e());
         assert_eq!(run.verdict(1_000, 1, 2, 1_000), Ok(STORED));
         assert_eq!(run.verdict(1_001, 0, 1, 500), Ok(STORED));
-        run.wait(5_000).expect("accepted");
+        assert_eq!(run.wait(5_000), Ok(Answer { verdict: 0, frames: 2, bytes: 1_460 }));
         assert_eq!(run.departures, [[2, 1_000, 2_000], [1, 500, 2_500]]);
+        assert_eq!([0, 1].map(|p| run.port.queues[p].mark), [480, 980]);
     }
 
     #[test]
@@ -342,7 +345,7 @@ mod tests {
         let mut run = Run::of(&table_e());
         assert_eq!(run.verdict(1_000, 1, 2, 1_000), Ok(STORED));
         assert_eq!(run.verdict(1_000, 0, 1, 500), Ok(STORED));
-        assert_eq!(run.wait(3_000), Ok(Answer { verdict: 0, frames: 2, bytes: 1_500 }));
+        assert_eq!(run.wait(3_000), Ok(Answer { verdict: 0, frames: 2, bytes: 1_460 }));
         assert_eq!(run.departures, [[1, 500, 1_500], [2, 1_000, 2_500]]);
     }
 
@@ -364,6 +367,69 @@ mod tests {
         assert_eq!(run.verdict(1_100, 1, 1, 200), Ok(STORED));
         assert_eq!(run.verdict(1_150, 2, 2, 200), Ok(DROPPED));
         assert_eq!(run.verdict(2_000, 2, 2, 200), Ok(POLICED));
+    }
+
+    /// With two of 200 held, 360 in all: 140 more fit a size of 500, 141 do not.
+    #[test]
+    fn a_frame_that_just_fits() {
+        for (length, verdict) in [(160, STORED), (161, DROPPED)] {
+            let links = [0, 1, 2].map(|number| link(number, number as u8, 0, 200));
+            let mut run = Run::of(&table_of(3, &links, [500, 0, 0, 0, 0, 0, 0, 0]));
+            assert_eq!(run.verdict(1_000, 0, 0, 200), Ok(STORED));
+            assert_eq!(run.verdict(1_100, 1, 1, 200), Ok(STORED));
+            assert_eq!(run.verdict(1_150, 2, 2, length), Ok(verdict));
+            assert_eq!(run.port.queues[0].mark, if verdict == STORED { 500 } else { 360 });
+        }
+    }
+
+    #[test]
+    fn e_at_its_bound() {
+        for (size, verdict) in [(480, STORED), (479, DROPPED)] {
+            let mut table = table_e();
+            table.sizes[0] = size;
+            assert_eq!(Run::of(&table).verdict(1_000, 0, 1, 500), Ok(verdict));
+            assert_eq!(Run::of(&table).verdict(1_000, 0, 1, 499), Ok(STORED));
+        }
+    }
+
+    /// Every pair of lengths, and a third frame: as early as the line can bring them, no more than 359 are held
+    /// of a bound of 399.
+    #[test]
+    fn g_does_not_reach_its_bound() {
+        let links = [0, 1, 2].map(|number| link(number, 0, 0, 200));
+        let table = table_of(1, &links, [399, 0, 0, 0, 0, 0, 0, 0]);
+        let mut most = 0;
+        for first in 84..=200 {
+            for second in 84..=200 {
+                for third in [84, 115, 116, 199, 200] {
+                    let mut run = Run::of(&table);
+                    let mut tick = 1_000;
+                    for (number, length) in [first, second, third].into_iter().enumerate() {
+                        tick += length;
+                        assert_eq!(run.verdict(tick, 0, number as u64, length), Ok(STORED));
+                    }
+                    most = most.max(run.port.queues[0].mark);
+                }
+            }
+        }
+        assert_eq!(most, 359);
+    }
+
+    #[test]
+    fn c_takes_256_frames() {
+        let mut run = Run::of(&table_c());
+        for (tick, frame) in filled_c() {
+            assert_eq!(run.tell(Report { tick, frame: Some(frame) }).map(|a| a.verdict), Ok(STORED));
+        }
+        assert_eq!(run.port.clock, 2_841);
+        let queue = &run.port.queues[0];
+        assert_eq!((queue.frames.len(), queue.held(), queue.mark), (256, 16_384, 16_384));
+        assert!(run.port.is_fit());
+        assert_eq!(run.wait(3_538), Ok(Answer { verdict: 0, frames: 1, bytes: 1_518 }));
+        let last = 3_538 + 84 * 256;
+        assert_eq!(run.wait(last - 1).map(|answer| answer.frames), Ok(255));
+        assert_eq!(run.wait(last), Ok(Answer { verdict: 0, frames: 1, bytes: 64 }));
+        assert_eq!(run.departures.len(), 257);
     }
 
     #[test]
@@ -425,7 +491,7 @@ mod tests {
         let mut run = Run::of(&table_e());
         run.wait(LAST_TICK - 500).expect("accepted");
         assert_eq!(run.verdict(LAST_TICK - 500, 0, 1, 500), Ok(STORED));
-        assert_eq!(run.wait(LAST_TICK), Ok(Answer { verdict: 0, frames: 1, bytes: 500 }));
+        assert_eq!(run.wait(LAST_TICK), Ok(Answer { verdict: 0, frames: 1, bytes: 480 }));
         assert_eq!(run.wait(LAST_TICK + 1), Err(11));
     }
 
@@ -450,10 +516,10 @@ mod tests {
         let mut port = busy();
         change(&mut port);
         let before = port.clone();
-        let mut list = [9; 3 * 8 * 200];
+        let mut list = [9; 3 * 8 * MOST_FRAMES];
         let answer = port.report(&Report { tick: before.clock, frame: None }, &mut list);
         assert_eq!(port, before);
-        assert_eq!(list, [9; 3 * 8 * 200]);
+        assert_eq!(list, [9; 3 * 8 * MOST_FRAMES]);
         match answer {
             Ok(answer) => {
                 assert_eq!(answer, Answer { verdict: 0, frames: 0, bytes: 0 });
@@ -470,7 +536,7 @@ mod tests {
         port.table.links[1].least = 84;
         port.table.sizes[1] = 16_384;
         port.queues[1].frames = vec![Frame { number: 2, length: 84, arrival: 1_100 }; frames];
-        port.queues[1].mark = 16_384.min(84 * frames as u64);
+        port.queues[1].mark = 16_384.min(64 * frames as u64);
     }
 
     #[test]
@@ -478,15 +544,16 @@ mod tests {
         assert!(!fit_after(|p| p.table.sizes[7] = 16_385));
         assert!(!fit_after(|p| p.table.lines = 0));
         assert!(!fit_after(|p| p.clock = LAST_TICK + 1));
-        assert!(!fit_after(|p| full_queue(p, 196)));
+        assert!(!fit_after(|p| full_queue(p, 257)));
         assert!(!fit_after(|p| p.queues[0].frames[1].number = 2));
         assert!(!fit_after(|p| p.queues[0].frames[1].number = 65_537));
         assert!(!fit_after(|p| p.queues[0].frames[1].length = 83));
         assert!(!fit_after(|p| p.queues[0].frames[1].length = 501));
         assert!(!fit_after(|p| p.queues[1].frames[0].arrival = 1_101));
         assert!(!fit_after(|p| p.queues[0].frames[1].arrival = 999));
-        assert!(!fit_after(|p| p.queues[0].mark = 999));
+        assert!(!fit_after(|p| p.queues[0].mark = 959));
         assert!(!fit_after(|p| p.queues[0].mark = 2_001));
+        assert!(!fit_after(|p| p.table.sizes[0] = 959));
         assert!(!fit_after(|p| p.queues[5].mark = 1));
         assert!(!fit_after(|p| p.line_ticks[1] = 1_101));
         assert!(!fit_after(|p| p.accounts[1].tick = 1_101));
@@ -503,10 +570,13 @@ mod tests {
     fn records_that_are_fit_at_an_edge() {
         assert!(fit_after(|_| ()));
         assert!(fit_after(|p| p.sending = None));
-        assert!(fit_after(|p| full_queue(p, 195)));
+        assert!(fit_after(|p| full_queue(p, 255)));
+        assert!(fit_after(|p| full_queue(p, 256)));
         assert!(fit_after(|p| p.queues[1].frames[0].arrival = 1_100));
         assert!(fit_after(|p| p.queues[0].frames[1].arrival = 1_000));
-        assert!(fit_after(|p| p.table.sizes[0] = 1_000));
+        assert!(fit_after(|p| p.table.sizes[0] = 960));
+        assert!(fit_after(|p| p.queues[0].mark = 961));
+        assert!(fit_after(|p| p.queues[0].mark = 2_000));
         assert!(fit_after(|p| p.accounts[1].credit = 12_500));
         assert!(fit_after(|p| p.line_ticks[1] = 1_100));
         assert!(fit_after(|p| p.accounts[1].tick = 1_100));

@@ -88,8 +88,8 @@ mod tests {
         let table = table::bytes_of(&table_e());
         let wait = bytes_of(&Report { tick: 5_000, frame: None });
         let reports = [frame(1_000, 2, 1_000), frame(1_001, 1, 500), wait].concat();
-        let answers = "accepted 0 0 0\naccepted 0 0 0\naccepted 0 2 1500 2:1000:2000 1:500:2500\n";
-        let expected = format!("{answers}priority held mark\n0 0 500\n1 0 1000\n{END}");
+        let answers = "accepted 0 0 0\naccepted 0 0 0\naccepted 0 2 1460 2:1000:2000 1:500:2500\n";
+        let expected = format!("{answers}priority held mark\n0 0 480\n1 0 980\n{END}");
         assert_eq!(replay(&table, &reports), expected);
         assert_eq!(replay(&table, &[]), format!("priority held mark\n0 0 0\n1 0 0\n{END}"));
     }

@@ -46,8 +46,8 @@ mod tests {
     fn the_sheet_of_table_e() {
         let expected = "\
 priority bound hold window size spare fill
-0 500 1499 0 2000 1500 250
-1 1000 1500 0 2000 1000 500
+0 480 1499 0 2000 1520 240
+1 980 1500 0 2000 1020 490
 2 0 1500 0 0 0 -
 3 0 1500 0 0 0 -
 4 0 1500 0 0 0 -
@@ -61,10 +61,10 @@ priority bound hold window size spare fill
     #[test]
     fn spare_below_zero_and_fill_rounded_up() {
         let mut table = table_e();
-        table.sizes = [499, 1_001, 0, 7, 0, 0, 0, 0];
+        table.sizes = [479, 981, 0, 7, 0, 0, 0, 0];
         let text = sheet(&bytes_of(&table));
-        assert!(text.contains("\n0 500 1499 0 499 -1 1003\n"));
-        assert!(text.contains("\n1 1000 1500 0 1001 1 1000\n"));
+        assert!(text.contains("\n0 480 1499 0 479 -1 1003\n"));
+        assert!(text.contains("\n1 980 1500 0 981 1 999\n"));
         assert!(text.contains("\n3 0 1500 0 7 7 0\n"));
     }
 

@@ -2,6 +2,7 @@
 //! bound sooner than its window after a quiet moment.
 
 use crate::bounds::Bounds;
+use crate::memory::occupied;
 use crate::port::{Answer, Frame, Port, Report, DROPPED, FILTERED, POLICED, STORED};
 use crate::table::{bag, Link, Table};
 
@@ -113,8 +114,8 @@ impl<'a> Watch<'a> {
     fn holds(&mut self, tick: u64) -> Result<(), String> {
         for p in 0..8 {
             let frames = self.held_of(p);
-            // "A buffer's held bytes are the sum of the lengths of the held frames of its priority."
-            let bytes: u64 = frames.iter().map(|frame| frame.length).sum();
+            // "A buffer's held bytes are the sum of the lengths of the held frames of its priority": each less 20.
+            let bytes: u64 = frames.iter().map(|frame| occupied(frame.length)).sum();
             if bytes > self.bounds.bounds[p] {
                 return Err(format!("priority {p} holds {bytes} at {tick}"));
             }
@@ -167,7 +168,7 @@ mod tests {
 
     fn entry(tick: u64, number: u64, length: u64, verdict: u64, departures: &[[u64; 3]]) -> Entry {
         let line = number - 1;
-        let bytes = departures.iter().map(|d| d[1]).sum();
+        let bytes = departures.iter().map(|d| occupied(d[1])).sum();
         Entry {
             report: Report { tick, frame: Some(Arrival { line, number, length }) },
             answer: Ok(Answer { verdict, frames: departures.len() as u64, bytes }),
@@ -197,14 +198,20 @@ mod tests {
         assert!(watched(&table_e(), &other_length).is_err());
         let too_much = [first(), entry(1_500, 1, 84, STORED, &[])];
         assert!(watched(&table_e(), &too_much).is_err());
+        let at_the_bound = [entry(1_000, 1, 415, STORED, &[]), entry(1_300, 1, 105, STORED, &[])];
+        assert!(watched(&table_e(), &at_the_bound).is_ok());
+        let above = [entry(1_000, 1, 415, STORED, &[]), entry(1_300, 1, 106, STORED, &[])];
+        assert!(watched(&table_e(), &above).is_err());
         let still_held = [first(), entry(2_499, 2, 1_000, STORED, &[])];
         assert!(watched(&table_e(), &still_held).is_err());
         let just_held = [first(), entry(2_498, 2, 1_000, STORED, &[])];
         assert!(watched(&table_e(), &just_held).is_ok());
         assert!(watched(&table_e(), &[entry(1_000, 1, 500, DROPPED, &[])]).is_err());
         let mut small = table_e();
-        small.sizes[0] = 499;
+        small.sizes[0] = 479;
         assert!(watched(&small, &[entry(1_000, 1, 500, DROPPED, &[])]).is_ok());
+        small.sizes[0] = 480;
+        assert!(watched(&small, &[entry(1_000, 1, 500, DROPPED, &[])]).is_err());
         assert!(watched(&table_e(), &[entry(1_000, 1, 500, POLICED, &[])]).is_err());
         let keeping = [first(), entry(13_500, 1, 500, POLICED, &[[1, 500, 1_500]])];
         assert!(watched(&table_e(), &keeping).is_err());
@@ -212,17 +219,17 @@ mod tests {
         assert!(watched(&table_e(), &breaking).is_ok());
     }
 
-    /// With jitter 12,001 the bound is 999, first reached 499 ticks after a quiet moment.
+    /// With jitter 12,001 the bound is 960, two frames of 500, and its window 499.
     #[test]
     fn a_window_is_watched() {
         let late = Link { jitter: 12_001, ..link(1, 0, 0, 500) };
-        let table = table_of(1, &[late], [999, 0, 0, 0, 0, 0, 0, 0]);
+        let table = table_of(1, &[late], [960, 0, 0, 0, 0, 0, 0, 0]);
         let first = || entry(1_000, 1, 500, STORED, &[]);
-        assert!(watched(&table, &[first(), entry(1_499, 1, 499, STORED, &[])]).is_ok());
-        assert!(watched(&table, &[first(), entry(1_498, 1, 499, STORED, &[])]).is_err());
+        assert!(watched(&table, &[first(), entry(1_499, 1, 500, STORED, &[])]).is_ok());
+        assert!(watched(&table, &[first(), entry(1_498, 1, 500, STORED, &[])]).is_err());
         let after_quiet = |tick| {
             let left = [[1, 500, 1_500]];
-            [first(), entry(20_000, 1, 500, STORED, &left), entry(tick, 1, 499, STORED, &[])]
+            [first(), entry(20_000, 1, 500, STORED, &left), entry(tick, 1, 500, STORED, &[])]
         };
         assert!(watched(&table, &after_quiet(20_499)).is_ok());
         assert!(watched(&table, &after_quiet(20_498)).is_err());

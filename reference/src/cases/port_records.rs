@@ -9,7 +9,8 @@
 use super::lists::Call;
 use super::make::table_of;
 use crate::examples::link;
-use crate::port::{Account, Arrival, Report, LAST_TICK};
+use crate::memory::occupied;
+use crate::port::{Account, Arrival, Report, LAST_TICK, MOST_FRAMES};
 use crate::record::{Entry, Record};
 use crate::table::{bag, Link, Table};
 
@@ -84,7 +85,7 @@ fn queue(record: &mut Record, p: usize, frames: &[Entry]) {
     let queue = &mut record.queues[p];
     queue.count = frames.len() as u16;
     queue.frames[..frames.len()].copy_from_slice(frames);
-    queue.mark = frames.iter().map(|frame| u32::from(frame.length)).sum();
+    queue.mark = frames.iter().map(|frame| occupied(frame.length.into()) as u32).sum();
 }
 
 /// A port at tick 50,000: link 1 being sent since 49,900, link 3 behind it, links 2 and 7 waiting; link 5 has none.
@@ -151,7 +152,7 @@ fn wild_behind(record: &mut Record) {
     }
 }
 
-/// 24 lines, 256 links, 195 frames in each queue, and every tick the clock; the ticks of the clock end.
+/// 24 lines, 256 links, 256 frames in each queue, and every tick the clock; the ticks of the clock end.
 fn full() -> Record {
     let one = |i: usize| Link {
         code: (i % 8) as u8,
@@ -162,7 +163,7 @@ fn full() -> Record {
     let mut record = Record::fresh(&table).expect("a good table");
     record.clock = LAST_TICK;
     for p in 0..8 {
-        queue(&mut record, p, &[frame(6_400 * p as u16 + 200 * 31, 84, LAST_TICK); 195]);
+        queue(&mut record, p, &[frame(6_400 * p as u16 + 200 * 31, 84, LAST_TICK); 256]);
     }
     record.line_ticks.fill(LAST_TICK);
     record.accounts.iter_mut().for_each(|account| account.tick = LAST_TICK);
@@ -176,11 +177,18 @@ fn edges() -> Vec<Record> {
         idle_with(|_| ()),
         busy_with(wild_behind),
         idle_with(|r| many(r, 195, 47_000, 48_000)),
-        idle_with(|r| many(r, 195, CLOCK, CLOCK)),
+        idle_with(|r| many(r, 255, 47_000, 48_000)),
+        idle_with(|r| many(r, 256, 47_000, 48_000)),
+        idle_with(|r| many(r, 256, CLOCK, CLOCK)),
         busy_with(|r| r.queues[1].frames[1].arrival = CLOCK),
         busy_with(|r| r.queues[1].frames[1].arrival = 48_000),
-        busy_with(|r| r.table.sizes[0] = 600),
+        // Frames of 500 and 100 bytes occupy 560.
+        busy_with(|r| r.table.sizes[0] = 560),
+        busy_with(|r| r.table.sizes[0] = 599),
+        busy_with(|r| r.queues[0].mark = 599),
         busy_with(|r| r.queues[0].mark = 2_000),
+        busy_with(|r| r.table.sizes[1] = 1_044),
+        busy_with(|r| r.table.sizes[7] = 1_518),
         busy_with(|r| r.queues[2].mark = 0),
         busy_with(|r| r.queues[6].mark = 900),
         busy_with(|r| r.accounts[0].credit = 12_500),
@@ -240,11 +248,10 @@ fn wrong_tables() -> Vec<Record> {
 fn wrong_queues() -> Vec<Record> {
     vec![
         idle_with(|r| {
-            many(r, 195, 47_000, 48_000);
-            r.queues[7].count = 196;
-            r.queues[7].mark = 16_384;
+            many(r, 256, 47_000, 48_000);
+            r.queues[7].count = 257;
         }),
-        busy_with(|r| r.queues[3].count = 196),
+        busy_with(|r| r.queues[3].count = 257),
         busy_with(|r| r.queues[3].count = u16::MAX),
         busy_with(|r| r.queues[0].count = 3),
         busy_with(|r| r.queues[0].frames[1].number = 4),
@@ -264,10 +271,10 @@ fn wrong_queues() -> Vec<Record> {
         busy_with(|r| r.queues[1].frames[1].arrival = 47_999),
         busy_with(|r| r.queues[1].frames[1].arrival = CLOCK + 1),
         busy_with(|r| r.queues[7].frames[0].arrival = u64::MAX),
-        idle_with(|r| many(r, 195, 48_001, 48_000)),
+        idle_with(|r| many(r, 256, 48_001, 48_000)),
         idle_with(|r| {
-            many(r, 195, 47_000, 48_000);
-            r.queues[7].frames[194].arrival = CLOCK + 1;
+            many(r, 256, 47_000, 48_000);
+            r.queues[7].frames[255].arrival = CLOCK + 1;
         }),
     ]
 }
@@ -275,13 +282,23 @@ fn wrong_queues() -> Vec<Record> {
 /// "each held sum ≤ mark ≤ size", not so.
 fn wrong_marks() -> Vec<Record> {
     vec![
-        busy_with(|r| r.queues[0].mark = 599),
+        busy_with(|r| r.queues[0].mark = 559),
+        busy_with(|r| r.queues[1].mark = 1_043),
+        busy_with(|r| r.queues[7].mark = 1_517),
         busy_with(|r| r.queues[7].mark = 0),
+        idle_with(|r| {
+            many(r, 256, 47_000, 48_000);
+            r.queues[7].mark = 16_383;
+        }),
+        idle_with(|r| {
+            many(r, 256, 47_000, 48_000);
+            r.table.sizes[7] = 16_383;
+        }),
         busy_with(|r| r.queues[0].mark = 2_001),
         busy_with(|r| r.queues[2].mark = 1),
         busy_with(|r| r.queues[6].mark = 901),
         busy_with(|r| r.queues[7].mark = u32::MAX),
-        busy_with(|r| r.table.sizes[0] = 599),
+        busy_with(|r| r.table.sizes[0] = 559),
     ]
 }
 
@@ -349,7 +366,7 @@ fn everything_wild() -> Record {
 pub fn calls_at(clock: u64) -> Vec<Call> {
     let wild = Arrival { line: u64::MAX, number: u64::MAX, length: u64::MAX };
     vec![
-        Call { report: Report { tick: clock, frame: None }, list: 4_683 },
+        Call { report: Report { tick: clock, frame: None }, list: 3 * 8 * MOST_FRAMES + 3 },
         Call { report: Report { tick: u64::MAX, frame: Some(wild) }, list: 0 },
         Call { report: Report { tick: clock, frame: None }, list: 0 },
     ]
@@ -377,6 +394,24 @@ fn calls_after(record: &Record) -> Vec<Call> {
     calls
 }
 
+/// 255 frames leave room for 64 bytes, and 256 for none: a frame that fits or does not, by a byte, and a wait until all
+/// have left.
+fn brimful() -> Vec<(Record, Vec<Call>)> {
+    let mut cases = Vec::new();
+    for (frames, length) in [(195, 84), (254, 148), (254, 149), (255, 84), (255, 85), (256, 84)] {
+        let record = idle_with(|r| {
+            many(r, frames, 47_000, 48_000);
+            r.accounts[4].credit = 1_725_000;
+        });
+        let last = Some(Arrival { line: 3, number: 7, length });
+        let reports =
+            [Report { tick: CLOCK + 10, frame: last }, Report { tick: CLOCK + 24_000, frame: None }];
+        let calls = reports.map(|report| Call { report, list: 3 * 8 * MOST_FRAMES });
+        cases.push((record, calls.into()));
+    }
+    cases
+}
+
 /// Every record with its reports. Each fit one comes twice: with a wait alone, after which it is as it was, and with
 /// more.
 pub fn all() -> Vec<(Record, Vec<Call>)> {
@@ -386,6 +421,7 @@ pub fn all() -> Vec<(Record, Vec<Call>)> {
         let calls = calls_after(&record);
         cases.push((record, calls));
     }
+    cases.extend(brimful());
     for record in unfit() {
         let calls = calls_at(record.clock);
         cases.push((record, calls));
@@ -405,6 +441,7 @@ pub fn tables() -> Vec<Table> {
 #[cfg(test)]
 mod tests {
     use super::*;
+    use crate::port::{DROPPED, STORED};
 
     fn first_answer(record: &Record) -> Result<u64, u32> {
         let call = &calls_at(record.clock)[0];
@@ -416,6 +453,16 @@ mod tests {
         for (i, record) in edges().iter().enumerate() {
             assert_eq!(first_answer(record), Ok(0), "edge {i}");
         }
+    }
+
+    #[test]
+    fn the_last_bytes() {
+        let mut verdicts = Vec::new();
+        for (mut record, calls) in brimful() {
+            let answer = record.report(&calls[0].report, &mut vec![0; calls[0].list]);
+            verdicts.push(answer.expect("accepted").verdict);
+        }
+        assert_eq!(verdicts, [STORED, STORED, DROPPED, STORED, DROPPED, DROPPED]);
     }
 
     #[test]

@@ -18,7 +18,7 @@ fn table() -> Table {
         Link { jitter: 12_500, ..link(40, 2, 1, 600) },
         Link { code: 7, ..link(65_535, 2, 3, 700) },
     ];
-    table_of(3, &links, [1_900, 1_200, 0, 699, 0, 0, 0, 16_384])
+    table_of(3, &links, [1_860, 1_160, 0, 679, 0, 0, 0, 16_384])
 }
 
 fn wait(tick: u64) -> Report {
@@ -130,6 +130,20 @@ mod tests {
             assert!(i == 0 || i % PART != 0 || port.frames_held() > 1, "{i}");
             let _ = port.report(report, &mut list);
         }
+    }
+
+    /// Some buffers hold more wire bytes than their size, and two are filled to their last byte.
+    #[test]
+    fn buffers_hold_more_than_their_size_in_wire_bytes() {
+        let mut port = fresh(&table()).expect("a good table");
+        let mut above = 0;
+        for report in reports() {
+            let _ = port.report(&report, &mut [0; 3 * 8 * MOST_FRAMES]);
+            let wire_bytes = |p: usize| port.queues[p].frames.iter().map(|frame| frame.length).sum::<u64>();
+            above += (0..8).filter(|p| wire_bytes(*p) > port.table.sizes[*p].into()).count();
+        }
+        assert!(above > 0);
+        assert_eq!([0, 1].map(|p| port.queues[p].mark), [1_860, 1_160]);
     }
 
     #[test]
