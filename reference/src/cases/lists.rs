@@ -1,6 +1,6 @@
-//! Random lists of reports, on random tables: what the port is run on.
+//! Random lists of reports, on random tables, and those made by hand: what the port is run on.
 
-use super::make;
+use super::{make, named_lists};
 use crate::bounds::bounds;
 use crate::port::{fresh, Arrival, Port, Report, LAST_TICK};
 use crate::random::Random;
@@ -17,12 +17,15 @@ pub struct List {
     pub calls: Vec<Call>,
 }
 
-pub const LISTS: usize = 420;
+/// How many are random.
+const LISTS: usize = 420;
 
 /// Every list, in order.
 pub fn all() -> Vec<List> {
     let mut random = Random::new(2_024_004);
-    (0..LISTS).map(|i| list(&mut random, i)).collect()
+    let mut lists: Vec<List> = (0..LISTS).map(|i| list(&mut random, i)).collect();
+    lists.extend(named_lists::all());
+    lists
 }
 
 /// How many reports the i-th list has: from 20 to 400, mostly few.
@@ -134,12 +137,13 @@ impl Maker<'_> {
             self.near_the_end_of_time();
             return;
         }
-        match self.random.from(0, 19) {
+        match self.random.from(0, 20) {
             0..=6 => self.one_frame(),
             7..=9 => self.one_wait(),
             10..=12 => self.odd_frame(),
             13..=15 => self.refused(),
             16 => self.odd_numbers(),
+            17 => self.brim(),
             _ => self.burst(),
         }
     }
@@ -274,8 +278,30 @@ impl Maker<'_> {
             let frame = Arrival { line: link.line.into(), number: link.number.into(), length };
             self.tell(tick, Some(frame));
         }
+        self.brim();
         for _ in 0..self.random.from(0, 2) {
             self.brink();
+        }
+    }
+
+    /// A frame that takes the last byte of its buffer, or would need one more: of the first link tried that has such
+    /// a length.
+    fn brim(&mut self) {
+        let more = self.random.from(0, 1);
+        for link in self.shuffled().into_iter().take(12) {
+            let tick = self.earliest(link.line, link.greatest.into());
+            let mut port = self.port.clone();
+            let mut list = vec![0; 3 * port.frames_held()];
+            if port.report(&Report { tick, frame: None }, &mut list).is_err() {
+                continue;
+            }
+            let p = usize::from(link.priority);
+            let room = u64::from(port.table.sizes[p]) - port.queues[p].held();
+            let length = room + 20 + more;
+            if (u64::from(link.least)..=u64::from(link.greatest)).contains(&length) {
+                let frame = Arrival { line: link.line.into(), number: link.number.into(), length };
+                return self.tell(tick, Some(frame));
+            }
         }
     }
 

@@ -3,6 +3,7 @@
 pub mod bounds;
 pub mod lists;
 pub mod make;
+pub mod named_lists;
 pub mod port;
 pub mod port_records;
 pub mod recordings;

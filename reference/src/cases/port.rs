@@ -17,7 +17,9 @@ use super::port_records::{self, record_bytes, table_bytes};
 use super::table::fnv;
 use super::Cases;
 use crate::bounds::bounds;
-use crate::record::Record;
+use crate::memory::occupied;
+use crate::port::STORED;
+use crate::record::{Queue, Record};
 use crate::table::{Link, Table, MOST_LINKS};
 use crate::watch::{Entry, Watch};
 
@@ -66,7 +68,7 @@ fn state_of(record: &Record, whole: bool) -> u32 {
 fn end_line(record: &Record, whole: bool) -> String {
     let mut line = format!("end {} {}", record.clock, state_of(record, whole));
     for queue in &record.queues {
-        let held: u64 = queue.queued().iter().map(|frame| u64::from(frame.length)).sum();
+        let held: u64 = queue.queued().iter().map(|frame| occupied(frame.length.into())).sum();
         line += &format!(" {held} {}", queue.mark);
     }
     line + "\n"
@@ -108,6 +110,26 @@ struct Tally {
     verdicts: [usize; 4],
     waits: usize,
     refused: [usize; 17],
+    /// Accepted reports on ports that would not be fit in wire bytes.
+    unfit_in_wire_bytes: usize,
+    /// Stored frames that would be dropped in wire bytes.
+    dropped_in_wire_bytes: usize,
+}
+
+fn wire_bytes(queue: &Queue) -> u64 {
+    queue.queued().iter().map(|frame| u64::from(frame.length)).sum()
+}
+
+/// Whether a queue's wire bytes exceed its mark.
+fn marked_below_wire_bytes(record: &Record) -> bool {
+    record.queues.iter().any(|queue| wire_bytes(queue) > queue.mark.into())
+}
+
+/// Whether the wire bytes of the link's queue exceed its size.
+fn sized_below_wire_bytes(record: &Record, number: u64) -> bool {
+    let link = record.table.members().iter().find(|v| u64::from(v.number) == number);
+    let p = usize::from(link.expect("a link of the table").priority);
+    wire_bytes(&record.queues[p]) > record.table.sizes[p].into()
 }
 
 impl Tally {
@@ -117,6 +139,16 @@ impl Tally {
             (Err(refusal), _) => self.refused[refusal as usize] += 1,
             (Ok(_), None) => self.waits += 1,
             (Ok(answer), Some(_)) => self.verdicts[answer.verdict as usize] += 1,
+        }
+    }
+
+    /// An accepted report: the record afterwards, and whether it was marked below its wire bytes before.
+    fn count_accepted(&mut self, entry: &Entry, was_marked_below: bool, record: &Record) {
+        self.unfit_in_wire_bytes += usize::from(was_marked_below);
+        if let (Ok(answer), Some(frame)) = (entry.answer, entry.report.frame) {
+            let is_stored = answer.verdict == STORED;
+            self.dropped_in_wire_bytes +=
+                usize::from(is_stored && sized_below_wire_bytes(record, frame.number));
         }
     }
 }
@@ -163,9 +195,13 @@ impl Maker {
         put_calls(&mut self.cases.stdin, calls);
         let mut accepted = false;
         for call in calls {
+            let was_marked_below = marked_below_wire_bytes(&record);
             let (line, entry) = run(&mut record, call);
             self.tally.count(&entry);
-            accepted |= entry.answer.is_ok();
+            if entry.answer.is_ok() {
+                self.tally.count_accepted(&entry, was_marked_below, &record);
+                accepted = true;
+            }
             self.say(&line);
         }
         self.say(&end_line(&record, !accepted));
@@ -177,11 +213,12 @@ fn blank_table() -> Table {
     Table { lines: 0, count: 0, links: [Link::default(); MOST_LINKS], sizes: [0; 8] }
 }
 
-pub fn cases() -> Cases {
+fn made() -> Maker {
     let cases = Cases { stdin: Vec::new(), stdout: Vec::new(), summary: String::new() };
     let mut maker = Maker { cases, tally: Tally::default() };
-    for List { table, calls } in lists::all() {
-        maker.fresh_case(&table, &calls);
+    let lists = lists::all();
+    for List { table, calls } in &lists {
+        maker.fresh_case(table, calls);
     }
     let tables = port_records::tables();
     for table in &tables {
@@ -191,19 +228,25 @@ pub fn cases() -> Cases {
     for (record, calls) in &records {
         maker.record_case(record, calls);
     }
-    let Maker { mut cases, tally } = maker;
-    cases.summary = format!(
+    let tally = &maker.tally;
+    maker.cases.summary = format!(
         "lists: {}; wrong tables: {}; records: {}; reports: {}; stored, filtered, policed, dropped: {:?}; waits: {}; \
-         refused 10 to 16: {:?}\n",
-        lists::LISTS,
+         refused 10 to 16: {:?}; too much in wire bytes: {} stored, {} ports\n",
+        lists.len(),
         tables.len(),
         records.len(),
         tally.reports,
         tally.verdicts,
         tally.waits,
-        &tally.refused[10..]
+        &tally.refused[10..],
+        tally.dropped_in_wire_bytes,
+        tally.unfit_in_wire_bytes
     );
-    cases
+    maker
+}
+
+pub fn cases() -> Cases {
+    made().cases
 }
 
 /// Watches demand 3 on every list whose table has bounds: what was seen, or the first breach.
@@ -241,7 +284,8 @@ mod tests {
 
     #[test]
     fn there_are_lists_of_each_kind() {
-        let text = String::from_utf8(cases().stdout).expect("plain text");
+        let Maker { cases, tally } = made();
+        let text = String::from_utf8(cases.stdout).expect("plain text");
         for number in 10..=16 {
             assert!(
                 text.lines().filter(|line| line.starts_with(&format!("refused {number} "))).count() >= 100
@@ -252,6 +296,7 @@ mod tests {
                 text.lines().filter(|line| line.starts_with(&format!("accepted {verdict} "))).count() >= 100
             );
         }
+        assert!(tally.dropped_in_wire_bytes >= 500 && tally.unfit_in_wire_bytes >= 5_000);
         assert!(lists::all().iter().all(|list| (20..=400).contains(&list.calls.len())));
     }
 }
