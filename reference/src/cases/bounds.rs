@@ -5,7 +5,7 @@
 
 use super::{make, Cases};
 use crate::bounds::bounds;
-use crate::examples::{link, table_e};
+use crate::examples::{link, table_c, table_e};
 use crate::random::Random;
 use crate::sheet::sheet;
 use crate::table::{bytes_of, Link, Table};
@@ -84,22 +84,24 @@ fn named() -> Vec<Table> {
     let mut large = table_e();
     large.sizes = [16_384; 8];
     let mut small = table_e();
-    small.sizes = [500, 999, 1, 0, 0, 0, 0, 1];
+    small.sizes = [480, 979, 1, 0, 0, 0, 0, 1];
     let mut tables = vec![
         table_e(),
         large,
         small,
         make::table_of(1, &three, [399, 0, 0, 0, 0, 0, 0, 0]),
-        make::table_of(3, &apart, [599, 1, 0, 0, 0, 0, 0, 0]),
-        make::table_of(1, &[late], [99, 0, 0, 0, 0, 0, 0, 0]),
-        make::table_of(1, &l, [1_000, 1_199, 0, 0, 0, 0, 0, 0]),
+        make::table_of(3, &apart, [539, 1, 0, 0, 0, 0, 0, 0]),
+        make::table_of(3, &apart, [540, 1, 0, 0, 0, 0, 0, 0]),
+        make::table_of(1, &[late], [79, 0, 0, 0, 0, 0, 0, 0]),
+        make::table_of(1, &l, [980, 1_199, 0, 0, 0, 0, 0, 0]),
     ];
     tables.extend(windows());
+    tables.extend(near_c());
     for last in [938, 939, 940, 941, 942] {
         tables.push(forty_three(last));
     }
     for jitter in [12_300, 12_399, 12_400, 12_401, 12_500] {
-        tables.push(make::table_of(1, &[Link { jitter, ..late }], [100; 8]));
+        tables.push(make::table_of(1, &[Link { jitter, ..late }], [80; 8]));
     }
     tables
 }
@@ -110,14 +112,36 @@ fn windows() -> Vec<Table> {
     let p = [1, 2, 3, 4, 5, 6].map(|number| link(number, u8::from(number > 3), 0, 200));
     let nt = [link(1, 0, 0, 200), link(2, 0, 0, 200), link(3, 0, 0, 200), link(4, 1, 3, 100)];
     let mut tables = vec![
-        make::table_of(2, &k, [500, 1_000, 0, 0, 0, 0, 0, 0]),
+        make::table_of(2, &k, [460, 980, 0, 0, 0, 0, 0, 0]),
         make::table_of(2, &p, [999, 0, 0, 0, 0, 0, 0, 0]),
-        make::table_of(2, &nt, [500, 0, 0, 99, 0, 0, 0, 0]),
+        make::table_of(2, &nt, [498, 0, 0, 79, 0, 0, 0, 0]),
     ];
-    for jitter in [11_999, 12_000, 12_001, 12_002] {
-        tables.push(make::table_of(1, &[Link { jitter, ..link(1, 0, 0, 500) }], [999; 8]));
+    for jitter in [11_999, 12_000, 12_001, 12_002, 12_019, 12_020, 12_021, 12_500] {
+        tables.push(make::table_of(1, &[Link { jitter, ..link(1, 0, 0, 500) }], [960; 8]));
     }
     tables
+}
+
+/// Table C, whose bound is 256 frames, and its neighbours: a byte of size, a tick or a frame of jitter, a byte of
+/// length.
+fn near_c() -> Vec<Table> {
+    let with = |change: fn(&mut Table)| {
+        let mut table = table_c();
+        change(&mut table);
+        table
+    };
+    vec![
+        table_c(),
+        with(|t| t.sizes = [16_383, 1_517, 0, 0, 0, 0, 0, 0]),
+        with(|t| t.links[23].jitter = 24_999),
+        with(|t| t.links[23].jitter = 37_500),
+        with(|t| t.links[0].jitter = 124_999),
+        with(|t| t.links[0].jitter = 112_500),
+        with(|t| t.links[0].jitter = 112_499),
+        with(|t| t.links[22].greatest = 85),
+        with(|t| t.links[24].greatest = 1_537),
+        with(|t| t.links[24].greatest = 84),
+    ]
 }
 
 fn draw(random: &mut Random, family: &Family) -> Table {
@@ -197,6 +221,31 @@ mod tests {
             tables.iter().filter_map(|table| bounds(table).ok()).flat_map(|found| found.windows).collect();
         assert!(windows.iter().filter(|window| **window > 0).count() >= 100);
         assert!(windows.iter().filter(|window| **window > 10_000).count() >= 10);
+    }
+
+    /// Sizes at the bounds that are known from the text, and a byte below them.
+    #[test]
+    fn there_are_sizes_at_the_known_bounds() {
+        let text: String = named().iter().map(|table| sheet(&bytes_of(table))).collect();
+        for line in [
+            "0 480 1499 0 480 0 1000",
+            "1 980 1500 0 979 -1 1002",
+            "0 399 600 219 399 0 1000",
+            "0 540 600 0 539 -1 1002",
+            "0 540 600 0 540 0 1000",
+            "0 80 100 0 79 -1 1013",
+            "1 1199 2600 1019 1199 0 1000",
+            "0 460 1499 180 460 0 1000",
+            "0 999 1200 400 999 0 1000",
+            "0 498 699 318 498 0 1000",
+            "3 80 700 0 79 -1 1013",
+            "0 960 1000 499 960 0 1000",
+            "0 960 1000 480 960 0 1000",
+            "0 16384 27073 640 16384 0 1000",
+            "0 16384 27073 640 16383 -1 1001",
+        ] {
+            assert!(text.lines().any(|found| found == line), "{line}");
+        }
     }
 
     #[test]
