@@ -152,8 +152,9 @@ fn wild_behind(record: &mut Record) {
     }
 }
 
-/// 24 lines, 256 links, 256 frames in each queue, and every tick the clock; the ticks of the clock end.
-fn full() -> Record {
+/// 24 lines, 256 links, 256 frames in each queue, each of the link in this place of its priority and with this arrival
+/// tick; every other tick is the clock.
+fn full_of(clock: u64, frames: impl Fn(usize) -> (usize, u64)) -> Record {
     let one = |i: usize| Link {
         code: (i % 8) as u8,
         ..link(200 * i as u16, (i % 24) as u8, (i / 32) as u8, 1_538)
@@ -161,13 +162,27 @@ fn full() -> Record {
     let links: Vec<Link> = (0..256).map(one).collect();
     let table = table_of(24, &links, [16_384; 8]);
     let mut record = Record::fresh(&table).expect("a good table");
-    record.clock = LAST_TICK;
+    record.clock = clock;
     for p in 0..8 {
-        queue(&mut record, p, &[frame(6_400 * p as u16 + 200 * 31, 84, LAST_TICK); 256]);
+        let queued: [Entry; 256] = std::array::from_fn(|i| {
+            let (place, arrival) = frames(i);
+            frame(200 * (32 * p + place) as u16, 84, arrival)
+        });
+        queue(&mut record, p, &queued);
     }
-    record.line_ticks.fill(LAST_TICK);
-    record.accounts.iter_mut().for_each(|account| account.tick = LAST_TICK);
+    record.line_ticks.fill(clock);
+    record.accounts.iter_mut().for_each(|account| account.tick = clock);
     record
+}
+
+/// Every tick is the clock, and the ticks of the clock end.
+fn full() -> Record {
+    full_of(LAST_TICK, |_| (31, LAST_TICK))
+}
+
+/// No two frames are alike, so that all stand in the case: none is longer.
+fn full_of_unlike() -> Record {
+    full_of(CLOCK, |i| (i % 32, CLOCK - 255 + i as u64))
 }
 
 /// The last of everything: records that are fit.
@@ -212,6 +227,7 @@ fn edges() -> Vec<Record> {
             r.clock = LAST_TICK;
         }),
         full(),
+        full_of_unlike(),
     ]
 }
 
