@@ -36,17 +36,20 @@ fn longest(t: &Table, low: u8, high: u8) -> u64 {
     links(t).iter().filter(|v| low <= v.priority && v.priority <= high).map(|v| u64::from(v.greatest)).max().unwrap_or(0)
 }
 
-/// The sum of bytes of the members of each line, and their greatest length.
+/// What a frame's buffer does not keep of its length: A_p takes each length less this, A_up in wire bytes.
+const UNKEPT: u64 = 20;
+
+/// The sum of bytes of the members of each line, and their greatest length, both in lengths less `off`.
 #[derive(Clone, Copy)]
 struct Loads {
     sums: [u64; 24],
     tops: [u64; 24],
 }
 
-fn loads(t: &Table, low: u8, high: u8, w: u64, frames: impl Fn(&Link, u64) -> u64) -> Loads {
+fn loads(t: &Table, low: u8, high: u8, off: u64, w: u64, frames: impl Fn(&Link, u64) -> u64) -> Loads {
     let mut l = Loads { sums: [0; 24], tops: [0; 24] };
     for v in links(t).iter().filter(|v| low <= v.priority && v.priority <= high) {
-        let (k, x) = (usize::from(v.line), u64::from(v.greatest));
+        let (k, x) = (usize::from(v.line), u64::from(v.greatest) - off);
         l.sums[k] += x * frames(v, w);
         l.tops[k] = l.tops[k].max(x);
     }
@@ -57,8 +60,8 @@ fn total(l: &Loads, lines: u16, w: u64) -> u64 {
     (0..usize::from(lines)).map(|k| l.sums[k].min(w + l.tops[k])).sum()
 }
 
-fn arrivals(t: &Table, low: u8, high: u8, w: u64, frames: impl Fn(&Link, u64) -> u64) -> u64 {
-    total(&loads(t, low, high, w, frames), t.lines, w)
+fn arrivals(t: &Table, low: u8, high: u8, off: u64, w: u64, frames: impl Fn(&Link, u64) -> u64) -> u64 {
+    total(&loads(t, low, high, off, w, frames), t.lines, w)
 }
 
 /// Bound, hold and window of each priority.
@@ -78,13 +81,14 @@ fn literal(t: &Table) -> Option<[Limits; 8]> {
     let mut rows = [Limits::default(); 8];
     for (p, row) in (0..8).zip(&mut rows) {
         let b = longest(t, p + 1, 7).saturating_sub(1);
-        row.hold = (1..=65_536).find(|w| b + arrivals(t, 0, p, w - 1, frames) <= *w)?;
+        row.hold = (1..=65_536).find(|w| b + arrivals(t, 0, p, 0, w - 1, frames) <= *w)?;
         let m = longest(t, p, p);
         if m == 0 {
             continue;
         }
         for w in 0..row.hold {
-            let amount = arrivals(t, p, p, w, frames).min(arrivals(t, 0, p, w, frames) - w.saturating_sub(b) + m - 1);
+            let other = arrivals(t, 0, p, 0, w, frames) - w.saturating_sub(b) + m - 1;
+            let amount = arrivals(t, p, p, UNKEPT, w, frames).min(other);
             if amount > row.bound {
                 (row.bound, row.window) = (amount, w);
             }
@@ -110,7 +114,7 @@ fn fast(t: &Table) -> Option<[Limits; 8]> {
 fn climb(t: &Table, p: u8, b: u64) -> Option<u64> {
     let mut last = 0;
     while last < 65_536 {
-        let n = b + arrivals(t, 0, p, last, frames_by_shift);
+        let n = b + arrivals(t, 0, p, 0, last, frames_by_shift);
         if n <= last + 1 {
             return Some(last + 1);
         }
@@ -123,7 +127,7 @@ fn climb(t: &Table, p: u8, b: u64) -> Option<u64> {
 fn peak(t: &Table, p: u8, b: u64, m: u64, last: u64) -> (u64, u64) {
     let (mut best, mut window, mut w) = (0, 0, 0);
     while w <= last {
-        let (own, up) = (loads(t, p, p, w, frames_by_shift), loads(t, 0, p, w, frames_by_shift));
+        let (own, up) = (loads(t, p, p, UNKEPT, w, frames_by_shift), loads(t, 0, p, 0, w, frames_by_shift));
         let until = steady(t, p, w).min(last);
         let by = |w: u64, sent: u64| {
             total(&own, t.lines, w).min(total(&up, t.lines, w).saturating_sub(sent.saturating_sub(b)) + m - 1)
