@@ -415,6 +415,13 @@ mod tests {
         assert_eq!(most, 359);
     }
 
+    /// The largest size has room for as many of the shortest frames, and for no more.
+    #[test]
+    fn most_frames_fill_the_largest_size() {
+        assert_eq!(MOST_FRAMES, 256);
+        assert_eq!(MOST_FRAMES as u64 * occupied(84), 16_384);
+    }
+
     #[test]
     fn c_takes_256_frames() {
         let mut run = Run::of(&table_c());
