@@ -72,11 +72,16 @@ fn answered(t: Table, fd: i32) -> u8 {
     if libc::lseek(fd, 0, SEEK_SET) != 0 {
         return parts::FAILED;
     }
-    let start = Port::fresh(t);
-    if start.refused != 0 {
-        answers::refuse(start.refused as u64);
+    let refused = table::check(t);
+    if refused != 0 {
+        answers::refuse(refused as u64);
         return state;
     }
-    let port = start.port;
-    parts::replay(port, fd)
+    parts::replay(fresh_port(t), fd)
+}
+
+// Apart from its caller, so that what holds the fresh port is gone when the reports run.
+fn fresh_port(t: Table) -> Port {
+    let start = Port::fresh(t);
+    start.port
 }

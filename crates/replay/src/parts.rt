@@ -25,11 +25,10 @@ pub(crate) const FAILED: u8 = 3;
 
 pub(crate) const UNWRITTEN: u8 = 4;
 
-// The first n bytes are reports.
+// What stands behind a part, and how many bytes of it are those of reports.
 struct Part {
     state: u8,
     n: usize,
-    bytes: [u8; PART],
 }
 
 // Whether nothing is left to read. A read that fails tells it from the end.
@@ -38,14 +37,16 @@ pub(crate) fn has_ended(fd: i32) -> bool {
     libc::read(fd, &mut one) == 0
 }
 
-fn next_part(fd: i32) -> Part {
-    let mut bytes = [0u8; PART];
-    let n = io::read_full(fd, &mut bytes);
-    let state = state_of(fd, &bytes, n);
+fn next_part(fd: i32, bytes: &mut [u8; PART]) -> Part
+    ensures { λ r. ⌜ r .n ≤ 8000 ⌝ }
+{
+    let n = io::read_full(fd, bytes);
+    let state = state_of(fd, bytes, n);
     if state == MORE || state == ENDED {
-        return Part { state, n, bytes };
+        let end = least(n, PART);
+        return Part { state, n: end };
     }
-    Part { state, n: 0, bytes }
+    Part { state, n: 0 }
 }
 
 fn state_of(fd: i32, bytes: &[u8; PART], n: usize) -> u8 {
@@ -82,78 +83,67 @@ fn least(a: usize, b: usize) -> usize
 
 // Reads the file to its end, or to what is no report.
 pub(crate) fn check(fd: i32) -> u8 {
+    let mut bytes = [0u8; PART];
     let mut state = MORE;
     // Nothing says that a file ends, so the loop counts down, from a number that no run uses up.
     let mut turns = u64::MAX;
     while turns > 0 && state == MORE {
-        let part = next_part(fd);
+        let part = next_part(fd, &mut bytes);
         state = part.state;
         turns -= 1;
     }
     state
 }
 
-// The port so far, and how much of what is printed of it is still to be written.
-struct Run {
-    port: Port,
-    out: Out,
-}
-
 // Runs every report, and prints what the queues hold at the end. A file that is not what it was when it was
-// checked counts as one that can't be read.
-pub(crate) fn replay(port: Port, fd: i32) -> u8 {
+// checked counts as one that can't be read. Each turn runs a report or reads the next part: one loop keeps one port.
+pub(crate) fn replay(mut port: Port, fd: i32) -> u8 {
     let mut room = [0u8; ROOM];
-    let mut run = Run {
-        port,
-        out: Out::empty(),
-    };
+    let mut list = [0u64; LIST_ROOM];
+    let mut bytes = [0u8; PART];
+    let mut out = Out::empty();
     let mut state = MORE;
+    let mut end: usize = 0;
+    let mut at: usize = 0;
     let mut turns = u64::MAX;
-    while turns > 0 && state == MORE && !run.out.failed {
-        let part = next_part(fd);
-        state = part.state;
-        run = replay_part(run, part, &mut room);
+    while turns > 0 && !out.failed {
+        if at < end {
+            let a = report(port, &bytes, at, &mut list);
+            port = a.port;
+            out = answers::put_answer(
+                out,
+                &mut room,
+                a.refused as u64,
+                a.verdict as u64,
+                a.frames,
+                a.bytes,
+                &list,
+            );
+            at += REPORT;
+        } else {
+            if state != MORE {
+                break;
+            }
+            let part = next_part(fd, &mut bytes);
+            state = part.state;
+            end = part.n;
+            at = 0;
+        }
         turns -= 1;
     }
-    let out = finished(&mut room, run, state);
-    if out.failed {
+    let last = finished(out, &mut room, port, state);
+    if last.failed {
         return UNWRITTEN;
     }
     if state == ENDED { ENDED } else { FAILED }
 }
 
-fn finished(room: &mut [u8; ROOM], run: Run, state: u8) -> Out {
-    let port = run.port;
-    let out = run.out;
+fn finished(out: Out, room: &mut [u8; ROOM], port: Port, state: u8) -> Out {
     if state != ENDED {
         return out.written(room);
     }
     let last = answers::put_end(out, room, port);
     last.written(room)
-}
-
-fn replay_part(run: Run, part: Part, room: &mut [u8; ROOM]) -> Run {
-    let mut list = [0u64; LIST_ROOM];
-    let bytes = part.bytes;
-    let end = least(part.n, PART);
-    let mut port = run.port;
-    let mut out = run.out;
-    let mut at: usize = 0;
-    while at < end {
-        let a = report(port, &bytes, at, &mut list);
-        port = a.port;
-        out = answers::put_answer(
-            out,
-            room,
-            a.refused as u64,
-            a.verdict as u64,
-            a.frames,
-            a.bytes,
-            &list,
-        );
-        at += REPORT;
-    }
-    Run { port, out }
 }
 
 fn report(port: Port, bytes: &[u8; PART], at: usize, list: &mut [u64; LIST_ROOM]) -> Answer

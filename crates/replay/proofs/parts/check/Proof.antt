@@ -4,10 +4,10 @@ use Rattle.replay.proofs.parts.check.Statement.{statement}
 use Rattle.replay.proofs.parts.check.Tie as tie
 
 abbrev Inv-loop : tie.InvT-loop
-Inv-loop fd state₀ turns₀ state turns = Unit {0}
+Inv-loop fd bytes₀ state₀ turns₀ bytes state turns = Unit {0}
 
 abbrev μ-loop : tie.MeasureT-loop
-μ-loop fd state₀ turns₀ state turns = turns
+μ-loop fd bytes₀ state₀ turns₀ bytes state turns = turns
 
 loop-holds : tie.Need-loop-holds Inv-loop μ-loop
 loop-holds c = search needs

@@ -1,13 +1,16 @@
--- `replay::parts::replay` is safe and ends: the turns that are left fall. Assumes nothing.
+-- `replay::parts::replay` is safe and ends: the turns that are left fall, and it stays within the part. Assumes nothing.
+use mathlib.Core.Logic.{⊎-elim}
+use Prim.Native.Nat.{_≤_}
+use native.Mathlib.Omega.{arith}
 use borrow.Author.Needs.{needs}
 use Rattle.replay.proofs.parts.replay.Statement.{statement}
 use Rattle.replay.proofs.parts.replay.Tie as tie
 
 abbrev Inv-loop : tie.InvT-loop
-Inv-loop fd room₀ run₀ state₀ turns₀ room run state turns = Unit {0}
+Inv-loop port₀ fd room₀ list₀ bytes₀ out₀ state₀ end₀ at₀ turns₀ port room list bytes out state end at turns = end ≤ 8000
 
 abbrev μ-loop : tie.MeasureT-loop
-μ-loop fd room₀ run₀ state₀ turns₀ room run state turns = turns
+μ-loop port₀ fd room₀ list₀ bytes₀ out₀ state₀ end₀ at₀ turns₀ port room list bytes out state end at turns = turns
 
 empty-requires : tie.Need-empty-requires Inv-loop μ-loop
 empty-requires c κs = search needs
@@ -15,11 +18,23 @@ empty-requires c κs = search needs
 loop-holds : tie.Need-loop-holds Inv-loop μ-loop
 loop-holds c = search needs
 
+report-requires : tie.Need-report-requires Inv-loop μ-loop
+report-requires c κs = search needs
+
+cast-put-answer : tie.Need-cast-put-answer Inv-loop μ-loop
+cast-put-answer c = search needs
+
+cast-put-answer-2 : tie.Need-cast-put-answer-2 Inv-loop μ-loop
+cast-put-answer-2 c = search needs
+
+put-answer-requires : tie.Need-put-answer-requires Inv-loop μ-loop
+put-answer-requires c κs = search needs
+
+add-at : tie.Need-add-at Inv-loop μ-loop
+add-at c = search needs
+
 next-part-requires : tie.Need-next-part-requires Inv-loop μ-loop
 next-part-requires c κs = search needs
-
-replay-part-requires : tie.Need-replay-part-requires Inv-loop μ-loop
-replay-part-requires c κs = search needs
 
 sub-turns : tie.Need-sub-turns Inv-loop μ-loop
 sub-turns c = search needs
@@ -28,7 +43,7 @@ loop-less : tie.Need-loop-less Inv-loop μ-loop
 loop-less c = search needs
 
 loop-again : tie.Need-loop-again Inv-loop μ-loop
-loop-again c = search needs
+loop-again c = ⊎-elim (λ y. omega (arith, y .16, c .before .before .before .before .loop .inv)) (λ n. omega (arith, n .10, n .3 .ensures)) (c .if2 .came)
 
 finished-requires : tie.Need-finished-requires Inv-loop μ-loop
 finished-requires c κs = search needs
@@ -50,8 +65,12 @@ replay-spec =
     μ-loop
     empty-requires
     loop-holds
+    report-requires
+    cast-put-answer
+    cast-put-answer-2
+    put-answer-requires
+    add-at
     next-part-requires
-    replay-part-requires
     sub-turns
     loop-less
     loop-again
