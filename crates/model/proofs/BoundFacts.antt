@@ -9,7 +9,6 @@ use native.Mathlib.Omega.{arith}
 use lib.Dec.{eqb}
 use borrow.Author.Tests.{eqb-true, eq-eqb, eqb-false}
 use Rattle.model.specs.Basics.{greatestTo, firstFrom}
-use Rattle.model.specs.Units.{occupied}
 use Rattle.model.specs.Link.{anyOf}
 use Rattle.model.specs.Table.{Table}
 use Rattle.model.specs.Bounds.{ofPriority, ownArrivals, upArrivals, blocking, backlog, boundWithin, orZero, windowWithin, hold, bound, window}
@@ -68,7 +67,7 @@ module _ (t : Table) (p : ℕ) (is-hold : IsHold t p (hold t p)) where
 
   idle : anyOf (ofPriority p) (t .links) ≡ false → (w : ℕ) → backlog t p w ≡ 0
   unfolding backlog ownArrivals
-  idle e w = omega (arith, curve-none occupied (ofPriority p) (t .lines) (t .links) w e)
+  idle e w = let none : ownArrivals t p w ≡ 0 = curve-none _ (ofPriority p) (t .lines) (t .links) w e in omega arith
 
   pub highest : FirstGreatest (backlog t p) (hold t p) (bound t p) (window t p)
   unfolding bound boundWithin window windowWithin
