@@ -1,5 +1,5 @@
--- The ten marked examples of the paper, a to j, and ours: k to y, windows, whole answers and sheets, the words of demand 3, and networks A
--- and B, as one list.
+-- The ten marked examples of the paper, a to j, and ours: k to y, windows, a full buffer (table C), whole answers and sheets, the words of
+-- demand 3, and networks A and B, as one list.
 use mathlib.Core.Path.{_≡_}
 use mathlib.Core.Bool.{true}
 use mathlib.Core.List.{List, [], _∷_, _++_, map, reverse}
@@ -52,7 +52,8 @@ pub data Example : Type 0 where
   -- of a table and calls in order: the link at a place keeps BAG and jitter, or does not
   keeps : Table → List Call → ℕ → Example
   breaks : Table → List Call → ℕ → Example
-  -- of a table and calls in order: every frame is stored and none leaves; by a clock a priority has so many frames and that mark, and the record is fit
+  -- of a table and calls in order: every frame is stored and none leaves; at the clock a priority has so many frames and that mark, and the
+  -- record is fit
   fills : Table → List Call → ℕ → ℕ → ℕ → ℕ → Example
   -- the BAG of codes 0 to 7
   gives-bags : List ℕ → Example
