@@ -24,6 +24,19 @@ pub record FirstGreatest (g : ℕ → ℕ) (n m w : ℕ) : Type 0 where
   pub attained : g w ≡ m
   pub earlier : (k : ℕ) → k < w → g k < m
 
+-- there is one
+pub first-one : {g : ℕ → ℕ} {n m w m' w' : ℕ} → FirstGreatest g n m w → FirstGreatest g n m' w' → (m ≡ m') × (w ≡ w')
+first-one {g} {n} {m} {w} {m'} {w'} a b = (same, omega (arith, before, behind))
+  where
+    same : m ≡ m'
+    same = omega (arith, a .attained, b .attained, a .greatest w' (b .within), b .greatest w (a .within))
+
+    before : w ≤ w'
+    before = elim (decLe w w') [ yes l ↦ l | no l ↦ absurd (omega (arith, a .earlier w' (omega arith), b .attained, same)) ]
+
+    behind : w' ≤ w
+    behind = elim (decLe w' w) [ yes l ↦ l | no l ↦ absurd (omega (arith, b .earlier w (omega arith), a .attained, same)) ]
+
 -- the search for it finds it
 first-greatest : (g : ℕ → ℕ) (n : ℕ) → 0 < n → FirstGreatest g n (greatestTo g n) (orZero (firstFrom (λ w. eqb (g w) (greatestTo g n)) n 0))
 unfolding orZero

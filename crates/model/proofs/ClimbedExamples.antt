@@ -25,11 +25,11 @@ use Rattle.model.proofs.ReadBack.{read-written}
 use Rattle.model.proofs.Examples as shown
 
 -- names for all that a climb and a table's checks compute with
-the-climb : ℕ
+unfoldable pub the-climb : ℕ
 unfolding climbsTo climb allHold holdTest upArrivals blocking beyond upTo arrivalCurve lineCurve onLine frameCurve greatestOver sumOver anyOf bagOf provided sumTo slowLinks
 the-climb = 0
 
-the-checks : ℕ
+unfoldable pub the-checks : ℕ
 unfolding tableRefusal tableChecks allAtMost linksChecks notAbove fieldsInRange countsInRange allHold firstMet slowLinks
 the-checks = 0
 

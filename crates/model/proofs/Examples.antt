@@ -109,7 +109,7 @@ settled (fills t calls clock p frames mark) e = absurd (let z : _≡_ {A = ℕ} 
 settled (selects r) e = absurd (let z : _≡_ {A = ℕ} 0 1 = cc in omega arith)
 
 -- names for all that an example computes with
-the-port : ℕ
+unfoldable pub the-port : ℕ
 unfolding computes sameOutcomes sameOutcome sameNumbers outcomes run step acceptedOr judgeReport judge policeAt police checkedIf passedIf store storedIf hasRoom charged replenished admitted admits reportRefusal allChecks reportChecks frameChecks tickOf fit senderFit framesFit namesLink fresh bytesFreed advance ticks tick byteLeaves freedIf started startIfAny highestWaiting bytes framesHeld placeOf bagOf further firstMet allHold allTo tableRefusal tableChecks allAtMost linksChecks notAbove fieldsInRange countsInRange occupied flatMap
 the-port = 0
 

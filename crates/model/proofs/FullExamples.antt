@@ -1,43 +1,28 @@
 -- Example C: the bound of a table whose windows are too many to try one by one, and a buffer filled with 256 frames.
 use mathlib.Core.Path.{_≡_, refl}
 use mathlib.Core.Bool.{true}
-use mathlib.Core.List.{List, [], _∷_, _++_, map, reverse, flatMap}
+use mathlib.Core.List.{List, [], _∷_, _++_, map, reverse}
 use mathlib.Core.Option.{some}
 use Prim.Native.Nat.{ℕ, suc, _+_, _-_, _≤_, _<_, min}
 use native.Mathlib.Decide.{decLe}
 use native.Mathlib.Omega.{arith}
 use lib.ListN.{length, replicate}
-use Rattle.model.specs.Basics.{provided, sumTo, allHold, further, firstMet}
+use Rattle.model.specs.Basics.{firstMet}
 use Rattle.model.specs.Units.{occupied}
-use Rattle.model.specs.Link.{bagOf, placeOf, anyOf, sumOver, greatestOver}
-use Rattle.model.specs.Table.{Table, countsInRange, fieldsInRange, notAbove, linksChecks, allAtMost, tableChecks, tableRefusal}
-use Rattle.model.specs.Arrival.{frameCurve, onLine, lineCurve, arrivalCurve}
-use Rattle.model.specs.Bounds.{ofPriority, upTo, beyond, ownArrivals, upArrivals, longest, blocking, holdTest, holdOf, backlog, orZero, hold, bound, window}
-use Rattle.model.specs.Machine.{highestWaiting, startIfAny, started, freedIf, byteLeaves, tick, ticks, advance, bytes, framesHeld, queueOf}
+use Rattle.model.specs.Table.{Table, tableRefusal}
+use Rattle.model.specs.Bounds.{ofPriority, ownArrivals, upArrivals, longest, blocking, holdOf, backlog, orZero, hold, bound, window}
+use Rattle.model.specs.Machine.{framesHeld, queueOf}
 use Rattle.model.specs.Port.{Port, fresh, markOf}
 use Rattle.model.specs.Fitness.{fit}
-use Rattle.model.specs.Report.{Call, Stepped, tickOf, frameChecks, reportChecks, roomCheck, allChecks, reportRefusal, admits, admitted, replenished, charged, checkedIf, police, policeAt, hasRoom, storedIf, store, passedIf, judge, judgeReport, bytesFreed, acceptedOr, step}
+use Rattle.model.specs.Report.{Call, Stepped, reportChecks, roomCheck, allChecks, reportRefusal, acceptedOr, step}
 use Rattle.model.specs.Run.{History, run}
 use Rattle.model.specs.Examples.{tableC, callsC, shortLinks, burst, bursts, Correct}
 use Rattle.model.specs.Examples as example
-use Rattle.model.proofs.Search.{climb}
-use Rattle.model.proofs.Curves.{curve-grows}
-use Rattle.model.proofs.Holds.{up-grows, hold-is, climbsTo, climbed}
-use Rattle.model.proofs.BoundFacts.{FirstGreatest, highest}
+use Rattle.model.proofs.Holds.{own-grows, up-grows, hold-is, climbed}
+use Rattle.model.proofs.BoundFacts.{FirstGreatest, first-one, highest}
 use Rattle.model.proofs.Fitness.{never-unfit}
-
--- ---- the first greatest is one
-first-one : {g : ℕ → ℕ} {n m w m' w' : ℕ} → FirstGreatest g n m w → FirstGreatest g n m' w' → (m ≡ m') × (w ≡ w')
-first-one {g} {n} {m} {w} {m'} {w'} a b = (same, omega (arith, before, behind))
-  where
-    same : m ≡ m'
-    same = omega (arith, a .attained, b .attained, a .greatest w' (b .within), b .greatest w (a .within))
-
-    before : w ≤ w'
-    before = elim (decLe w w') [ yes l ↦ l | no l ↦ absurd (omega (arith, a .earlier w' (omega arith), b .attained, same)) ]
-
-    behind : w' ≤ w
-    behind = elim (decLe w' w) [ yes l ↦ l | no l ↦ absurd (omega (arith, b .earlier w (omega arith), a .attained, same)) ]
+use Rattle.model.proofs.Examples.{the-port}
+use Rattle.model.proofs.ClimbedExamples.{the-climb, the-checks}
 
 less-left : (u u' x y m : ℕ) → u ≤ u' → x ≤ y → u - y + m - 1 ≤ u' - x + m - 1
 less-left u u' x y m l h = omega arith
@@ -50,10 +35,6 @@ later-left x y b l = omega arith
 
 -- ---- a bound by three windows: before w A_p is below m, up to s it is at most m, and behind s the other amount is
 module _ (t : Table) (p : ℕ) where
-  own-grows : (x y : ℕ) → x ≤ y → ownArrivals t p x ≤ ownArrivals t p y
-  unfolding ownArrivals
-  own-grows x y l = curve-grows occupied (ofPriority p) (t .lines) (t .links) x y l
-
   by-own : (k : ℕ) → backlog t p k ≤ ownArrivals t p k
   unfolding backlog
   by-own k = omega arith
@@ -68,19 +49,19 @@ module _ (t : Table) (p : ℕ) where
       → upArrivals t p (n - 1) - (suc s - blocking t p) + longest t p - 1 ≤ m → FirstGreatest (backlog t p) n m w
   by-three n m w s l at before until behind =
       record {
-        greatest = λ k x. elim (decLe k s) [ yes y ↦ omega (arith, by-own k, own-grows k s y) | no y ↦ omega (arith, by-up k (n - 1) s (omega arith) (omega arith)) ];
+        greatest = λ k x. elim (decLe k s) [ yes y ↦ omega (arith, by-own k, own-grows t p k s y) | no y ↦ omega (arith, by-up k (n - 1) s (omega arith) (omega arith)) ];
         within = l;
         attained = at;
-        earlier = λ k x. omega (arith, by-own k, own-grows k (w - 1) (omega arith));
+        earlier = λ k x. omega (arith, by-own k, own-grows t p k (w - 1) (omega arith));
       }
 
--- names for all that bounds compute with
-the-bounds : ℕ
-unfolding climbsTo climb allHold holdTest backlog longest blocking upArrivals ownArrivals beyond upTo ofPriority arrivalCurve lineCurve onLine frameCurve greatestOver sumOver anyOf bagOf provided sumTo occupied shortLinks
-the-bounds = 0
+-- names for all that a bound computes with
+the-bound : ℕ
+unfolding the-climb backlog longest ownArrivals ofPriority occupied shortLinks
+the-bound = 0
 
 hold-found : holdOf tableC 0 ≡ some 27_073
-unfolding the-bounds
+unfolding the-bound
 hold-found = climbed tableC 0 6 27_073 refl
 
 hold-c : hold tableC 0 ≡ 27_073
@@ -88,7 +69,7 @@ unfolding hold orZero
 hold-c = rw hold-found
 
 first-c : FirstGreatest (backlog tableC 0) 27_073 16_384 640
-unfolding the-bounds
+unfolding the-bound
 first-c = by-three tableC 0 27_073 16_384 640 12_499 (omega arith) refl (omega arith) (omega arith) (omega arith)
 
 pub boundC : Correct example.boundC
@@ -114,18 +95,18 @@ runFit t (c ∷ calls) =
     let s = stepFit t (before .port) c in
     record { port = s .port; log = record { report = c .report; answer = s .answer; list = s .list } ∷ before .log }
 
-run-fit : (t : Table) → tableRefusal t ≡ 0 → (calls : List Call) → run t calls ≡ runFit t calls
+run-is : (t : Table) → tableRefusal t ≡ 0 → (calls : List Call) → run t calls ≡ runFit t calls
 unfolding run runFit
-run-fit t e [] = refl
-run-fit t e (c ∷ calls) = rw (step-fit t (run t calls .port) c (never-unfit t e calls .0), run-fit t e calls)
+run-is t e [] = refl
+run-is t e (c ∷ calls) = rw (step-fit t (run t calls .port) c (never-unfit t e calls .0), run-is t e calls)
 
--- names for all that a port computes with, but fitness
+-- names for all that the filling computes with
 the-fill : ℕ
-unfolding runFit acceptedOr judgeReport judge policeAt police checkedIf passedIf store storedIf hasRoom charged replenished admitted admits reportChecks frameChecks tickOf fresh bytesFreed advance ticks tick byteLeaves freedIf started startIfAny highestWaiting bytes framesHeld placeOf bagOf further firstMet allHold occupied flatMap shortLinks burst bursts
+unfolding the-port runFit shortLinks burst bursts
 the-fill = 0
 
 c-passes : tableRefusal tableC ≡ 0
-unfolding tableRefusal tableChecks allAtMost linksChecks notAbove fieldsInRange countsInRange allHold firstMet shortLinks
+unfolding the-checks shortLinks
 c-passes = refl
 
 answers-c : map (λ e. e .answer) (runFit tableC (reverse callsC) .log) ≡ replicate (length callsC) (record { refused = 0; verdict = 0; frames = 0; bytes = 0 })
@@ -140,4 +121,4 @@ port-c = (refl, refl, refl)
 
 pub filledC : Correct example.filledC
 unfolding Correct
-filledC = rw (run-fit tableC c-passes (reverse callsC)) (answers-c, port-c .0, port-c .1, port-c .2, rw (← run-fit tableC c-passes (reverse callsC)) (never-unfit tableC c-passes (reverse callsC) .0))
+filledC = rw (run-is tableC c-passes (reverse callsC)) (answers-c, port-c .0, port-c .1, port-c .2, rw (← run-is tableC c-passes (reverse callsC)) (never-unfit tableC c-passes (reverse callsC) .0))

@@ -11,7 +11,7 @@ use lib.Dec.{T, eqb, leb, leb→le}
 use borrow.Author.Tests.{eqb-true, leb-true, leb-false, le-leb, lt-leb, not-false}
 use Rattle.model.specs.Basics.{allTo, allHold, firstFrom, Check, check, firstMet}
 use Rattle.model.specs.Table.{Table, tableChecks, tableRefusal}
-use Rattle.model.specs.Bounds.{upTo, upArrivals, blocking, holdTest, holdBy, holdOf, isThere, orZero, boundsRefusal, hold}
+use Rattle.model.specs.Bounds.{ofPriority, upTo, ownArrivals, upArrivals, blocking, holdTest, holdBy, holdOf, isThere, orZero, boundsRefusal, hold}
 use Rattle.model.specs.Promises.{IsHold, HoldIsSmallest, HoldGrows}
 use Rattle.model.proofs.Checks.{AllTrue, all-true, all-to, to-all, first-past, none-met, numbered-append, none-front, none-back, first-none, NoneMet}
 use Rattle.model.proofs.TableFacts.{table-numbered}
@@ -21,6 +21,10 @@ use Rattle.model.proofs.Curves.{curve-grows}
 pub up-grows : (t : Table) (p x y : ℕ) → x ≤ y → upArrivals t p x ≤ upArrivals t p y
 unfolding upArrivals
 up-grows t p x y l = curve-grows _ (upTo p) (t .lines) (t .links) x y l
+
+pub own-grows : (t : Table) (p x y : ℕ) → x ≤ y → ownArrivals t p x ≤ ownArrivals t p y
+unfolding ownArrivals
+own-grows t p x y l = curve-grows _ (ofPriority p) (t .lines) (t .links) x y l
 
 pub hold-is : (t : Table) (p w : ℕ) → holdOf t p ≡ some w → IsHold t p w
 unfolding holdOf holdBy holdTest
