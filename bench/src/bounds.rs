@@ -1,7 +1,7 @@
 //! Bounds, holds and windows, and the sheet: the product beside the literal formulas and beside the same method in plain Rust.
 
 use crate::measure::{compare, once};
-use crate::table::{file_of, read, Link, Table};
+use crate::table::{file_of, read, Link, Table, UNKEPT};
 use std::hint::black_box;
 
 extern "C" {
@@ -35,9 +35,6 @@ fn links(t: &Table) -> &[Link] {
 fn longest(t: &Table, low: u8, high: u8) -> u64 {
     links(t).iter().filter(|v| low <= v.priority && v.priority <= high).map(|v| u64::from(v.greatest)).max().unwrap_or(0)
 }
-
-/// What a frame's buffer does not keep of its length: A_p takes each length less this, A_up in wire bytes.
-const UNKEPT: u64 = 20;
 
 /// The sum of bytes of the members of each line, and their greatest length, both in lengths less `off`.
 #[derive(Clone, Copy)]
@@ -88,7 +85,7 @@ fn literal(t: &Table) -> Option<[Limits; 8]> {
         }
         for w in 0..row.hold {
             let other = arrivals(t, 0, p, 0, w, frames) - w.saturating_sub(b) + m - 1;
-            let amount = arrivals(t, p, p, UNKEPT, w, frames).min(other);
+            let amount = arrivals(t, p, p, UNKEPT.into(), w, frames).min(other);
             if amount > row.bound {
                 (row.bound, row.window) = (amount, w);
             }
@@ -127,7 +124,7 @@ fn climb(t: &Table, p: u8, b: u64) -> Option<u64> {
 fn peak(t: &Table, p: u8, b: u64, m: u64, last: u64) -> (u64, u64) {
     let (mut best, mut window, mut w) = (0, 0, 0);
     while w <= last {
-        let (own, up) = (loads(t, p, p, UNKEPT, w, frames_by_shift), loads(t, 0, p, 0, w, frames_by_shift));
+        let (own, up) = (loads(t, p, p, UNKEPT.into(), w, frames_by_shift), loads(t, 0, p, 0, w, frames_by_shift));
         let until = steady(t, p, w).min(last);
         let by = |w: u64, sent: u64| {
             total(&own, t.lines, w).min(total(&up, t.lines, w).saturating_sub(sent.saturating_sub(b)) + m - 1)

@@ -2,7 +2,7 @@
 //! before it. The product, in a program of its own that makes four reports in a row, over and over, beside a plain Rust
 //! port that is lent and not copied.
 
-use crate::table::{file_of, Link, Table};
+use crate::table::{file_of, Link, Table, UNKEPT};
 use std::hint::black_box;
 use std::io::Write;
 use std::process::{Command, Stdio};
@@ -10,9 +10,6 @@ use std::time::Instant;
 
 const REPORTS: u64 = 40_000;
 const FRAME: u64 = 84;
-
-/// What a buffer does not keep of a frame's length.
-const UNKEPT: u32 = 20;
 
 /// 240 links on 24 lines, eight priorities; each link may send 11 frames at once.
 fn table() -> Table {
@@ -102,7 +99,7 @@ impl Port {
                     usize::from(v.priority) == p && v.least <= f.length && f.length <= v.greatest
                 })
         });
-        let held: u32 = q.frames.iter().map(|f| u32::from(f.length) - UNKEPT).sum();
+        let held: u32 = q.frames.iter().map(|f| u32::from(f.length - UNKEPT)).sum();
         each && q.frames.len() <= 256 && held <= q.mark && q.mark <= self.table.sizes[p]
     }
 
@@ -148,7 +145,7 @@ impl Port {
         }
         account.0 -= 12_500;
         let queue = &mut self.queues[usize::from(v.priority)];
-        let held = length as u32 - UNKEPT + queue.frames.iter().map(|f| u32::from(f.length) - UNKEPT).sum::<u32>();
+        let held = length as u32 - u32::from(UNKEPT) + queue.frames.iter().map(|f| u32::from(f.length - UNKEPT)).sum::<u32>();
         if held > self.table.sizes[usize::from(v.priority)] {
             return false;
         }

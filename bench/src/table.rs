@@ -16,6 +16,9 @@ fn product_copy(file: &[u8], out: &mut [u8]) -> u32 {
     unsafe { table_c_copy(file.as_ptr(), file.len(), out.as_mut_ptr(), out.len()) }
 }
 
+/// What a buffer does not keep of a frame's length: held bytes and A_p take lengths less this.
+pub const UNKEPT: u16 = 20;
+
 #[derive(Clone, Copy, Default)]
 pub struct Link {
     pub number: u16,

@@ -2,6 +2,7 @@
 
 use super::{make, named_lists};
 use crate::bounds::bounds;
+use crate::memory::length_of;
 use crate::port::{fresh, Arrival, Port, Report, LAST_TICK};
 use crate::random::Random;
 use crate::table::{bag, Link, Table};
@@ -297,7 +298,7 @@ impl Maker<'_> {
             }
             let p = usize::from(link.priority);
             let room = u64::from(port.table.sizes[p]) - port.queues[p].held();
-            let length = room + 20 + more;
+            let length = length_of(room + more);
             if (u64::from(link.least)..=u64::from(link.greatest)).contains(&length) {
                 let frame = Arrival { line: link.line.into(), number: link.number.into(), length };
                 return self.tell(tick, Some(frame));
