@@ -7,6 +7,7 @@ use numbers::u16_as_usize;
 use numbers::u32_as_u64;
 use table::Table;
 use table::VirtualLink;
+use units::LEAST_BAG;
 ghost use mathlib.Core.Path.{_≡_};
 ghost use Prim.Native.Nat.{ℕ, _*_, _≤_, _<_};
 ghost use lib.ListN.{getD};
@@ -22,12 +23,12 @@ pub struct Loads {
     pub tops: [u64; 24],
 }
 
-// N_v(w). The BAG is 12,500 ticks times 2 to the power of the code: division by a constant and a shift are faster.
+// N_v(w). The BAG is the least times 2 to the power of the code: division by a constant and a shift are faster.
 pub fn frames(l: VirtualLink, w: u64) -> u64
     requires { ⌜ (l .code ≤ 7) × (l .jitter ≤ 125000) × (w ≤ 65536) ⌝ }
     ensures { λ r. ⌜ ((n : ℕ) → r ≡ frameCurve (viewLink n l) w) × (r ≤ 16) ⌝ }
 {
-    1 + ((w + u32_as_u64(l.jitter)) / 12500 >> l.code)
+    1 + ((w + u32_as_u64(l.jitter)) / LEAST_BAG >> l.code)
 }
 
 // Whether a link is of priority low to high.

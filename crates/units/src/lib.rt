@@ -16,6 +16,9 @@ pub const LEAST_LENGTH: u16 = 84;
 
 pub const GREATEST_LENGTH: u16 = 1538;
 
+// The BAG of code 0, in ticks: 1 ms.
+pub const LEAST_BAG: u64 = 12500;
+
 // The bytes of a frame on the wire that its buffer does not keep: preamble and gap.
 pub const UNKEPT: u64 = 20;
 
