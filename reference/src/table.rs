@@ -31,9 +31,9 @@ impl Table {
     }
 }
 
-/// "Its BAG is B: 12,500; 25,000; 50,000; 100,000; 200,000; 400,000; 800,000; 1,600,000 ticks."
+/// "definition and code take 12,500 × 2^code"; a code above 7, which meets 4, has the BAG of 7.
 pub fn bag(code: u8) -> u64 {
-    [12_500, 25_000, 50_000, 100_000, 200_000, 400_000, 800_000, 1_600_000][code as usize]
+    12_500 * 2_u64.pow(u32::from(code.min(7)))
 }
 
 /// "line count (2 bytes, 1 to 24); virtual link count n (2 bytes, 1 to 256)"

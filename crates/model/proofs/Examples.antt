@@ -7,7 +7,7 @@ use native.Mathlib.Omega.{arith}
 use lib.Dec.{eqb}
 use lib.ListN.{getD, drop}
 use borrow.Author.Tests.{eqb-true}
-use Rattle.model.specs.Basics.{eight, provided, sumTo, greatestTo, allTo, allHold, firstFrom, further, firstMet}
+use Rattle.model.specs.Basics.{provided, sumTo, greatestTo, allTo, allHold, firstFrom, further, firstMet}
 use Rattle.model.specs.Units.{occupied}
 use Rattle.model.specs.Link.{bagOf, placeOf, anyOf, sumOver, greatestOver}
 use Rattle.model.specs.Table.{countsInRange, fieldsInRange, notAbove, linksChecks, allAtMost, tableChecks, tableRefusal}
@@ -22,6 +22,7 @@ use Rattle.model.specs.Report.{tickOf, frameChecks, reportChecks, allChe
 use Rattle.model.specs.Run.{run}
 use Rattle.model.specs.Examples.{Outcome, Example, gives-bound, gives-hold, gives-sizing, lacks-bounds, gives-answers, gives-held, gives-fates, keeps, breaks, fills, gives-bags, gives-sheet, selects, outcomes, Correct}
 use Rattle.model.specs.Examples as example
+use Rattle.model.proofs.Bags.{bag-constants}
 
 -- ---- the common theorem: an example whose test computes to true is correct
 
@@ -51,16 +52,16 @@ computes (gives-bound t p b h w) = sameNumbers (hold t p ∷ boundWithin t p h �
 computes (gives-hold t p h) = eqb (hold t p) h
 computes (lacks-bounds t n) = eqb (boundsRefusal t) n
 computes (gives-answers t calls expected) = sameOutcomes (outcomes t calls) expected
-computes (gives-bags bags) = sameNumbers (eight bagOf) bags
 computes (gives-sheet t printed) = sameNumbers (sheet (tableBytes t)) (text printed)
 -- the whole answer is shown from its parts, in ClimbedExamples, the words of demand 3 from the answers, in ClauseExamples, a full buffer
--- in FullExamples, and networks A and B in RedundancyExamples
+-- in FullExamples, the eight BAGs in Bags, and networks A and B in RedundancyExamples
 computes (gives-sizing t expected) = false
 computes (gives-held t calls p expected) = false
 computes (gives-fates t calls n expected) = false
 computes (keeps t calls i) = false
 computes (breaks t calls i) = false
 computes (fills t calls clock p frames mark) = false
+computes (gives-bags bags) = false
 computes (selects r) = false
 
 numbers-equal : (xs ys : List ℕ) → sameNumbers xs ys ≡ true → xs ≡ ys
@@ -98,7 +99,6 @@ settled (gives-bound t p b h w) e =
 settled (gives-hold t p h) e = eqb-true (hold t p) h e
 settled (lacks-bounds t n) e = eqb-true (boundsRefusal t) n e
 settled (gives-answers t calls expected) e = outcomes-equal (outcomes t calls) expected e
-settled (gives-bags bags) e = numbers-equal (eight bagOf) bags e
 settled (gives-sheet t printed) e = numbers-equal (sheet (tableBytes t)) (text printed) e
 settled (gives-sizing t expected) e = absurd (let z : _≡_ {A = ℕ} 0 1 = cc in omega arith)
 settled (gives-held t calls p expected) e = absurd (let z : _≡_ {A = ℕ} 0 1 = cc in omega arith)
@@ -106,6 +106,7 @@ settled (gives-fates t calls n expected) e = absurd (let z : _≡_ {A = ℕ} 0 1
 settled (keeps t calls i) e = absurd (let z : _≡_ {A = ℕ} 0 1 = cc in omega arith)
 settled (breaks t calls i) e = absurd (let z : _≡_ {A = ℕ} 0 1 = cc in omega arith)
 settled (fills t calls clock p frames mark) e = absurd (let z : _≡_ {A = ℕ} 0 1 = cc in omega arith)
+settled (gives-bags bags) e = absurd (let z : _≡_ {A = ℕ} 0 1 = cc in omega arith)
 settled (selects r) e = absurd (let z : _≡_ {A = ℕ} 0 1 = cc in omega arith)
 
 -- names for all that an example computes with
@@ -206,8 +207,8 @@ unfolding the-formulas
 l = settled example.l refl
 
 pub t : Correct example.t
-unfolding computes sameNumbers bagOf
-t = settled example.t refl
+unfolding Correct
+t = bag-constants
 
 pub windowK : Correct example.windowK
 unfolding the-formulas

@@ -1,11 +1,12 @@
 -- The theorems of specs/Promises.antt and specs/Examples.antt, each under its name.
 use Rattle.model.specs.Basics.{also}
 use Rattle.model.proofs.Lists.{each-of-both}
-use Rattle.model.specs.Promises.{ReadsWritten, WritesRead, FileLength, DemandThree, NeverUnfit, FitnessKept, LengthsKept, CurveGrows, HoldIsSmallest, HoldGrows, BoundIsGreatest, NoneAppears, DeparturesInTime, DeparturesSpaced, PassedKeep, DigitsRead, DigitsWritten, AmongByDistance, OneOfTwo, SelectedAlways}
+use Rattle.model.specs.Promises.{ReadsWritten, WritesRead, FileLength, BagConstants, LastBag, DemandThree, NeverUnfit, FitnessKept, LengthsKept, CurveGrows, HoldIsSmallest, HoldGrows, BoundIsGreatest, NoneAppears, DeparturesInTime, DeparturesSpaced, PassedKeep, DigitsRead, DigitsWritten, AmongByDistance, OneOfTwo, SelectedAlways}
 use Rattle.model.specs.Examples.{ExamplesCorrect}
 use Rattle.model.proofs.Digits as Digits
 use Rattle.model.proofs.ReadBack as ReadBack
 use Rattle.model.proofs.FileWrite as FileWrite
+use Rattle.model.proofs.Bags as Bags
 use Rattle.model.proofs.Curves as Curves
 use Rattle.model.proofs.Holds as Holds
 use Rattle.model.proofs.BoundFacts as BoundFacts
@@ -28,6 +29,12 @@ writes-read = FileWrite.written-read
 
 pub file-length : FileLength
 file-length = FileWrite.written-length
+
+pub bag-constants : BagConstants
+bag-constants = Bags.bag-constants
+
+pub last-bag : LastBag
+last-bag = Bags.last-bag
 
 pub demand-three : DemandThree
 demand-three = Demand.demand-three

@@ -7,7 +7,7 @@ use Prim.Native.Nat.{ℕ, zero, suc, _+_, _-_}
 use Prim.Native.String.{String}
 use lib.ListN.{length, replicate}
 use Rattle.model.specs.Basics.{eight, Each}
-use Rattle.model.specs.Link.{VirtualLink, bagOf, linkAt}
+use Rattle.model.specs.Link.{VirtualLink, bagOf, standardBags, linkAt}
 use Rattle.model.specs.Table.{Table}
 use Rattle.model.specs.TableFile.{tableBytes}
 use Rattle.model.specs.Bounds.{boundsRefusal, hold, bound, window, Sizing, sizing}
@@ -295,9 +295,9 @@ s =
     (lent (frame 1_000 0 1 500) ∷ lent (frame 1_000 2 1 83) ∷ record { report = frame 1_001 0 1 500; list = [] } ∷ [])
     (gives 0 0 0 [] ∷ refuses 13 ∷ record { answer = refuses 15 .answer; list = [] } ∷ [])
 
--- t. "12,500; 25,000; 50,000; 100,000; 200,000; 400,000; 800,000; 1,600,000 ticks"
+-- t. the eight BAGs: the theorem BagConstants
 abbrev pub t : Example
-t = gives-bags (12_500 ∷ 25_000 ∷ 50_000 ∷ 100_000 ∷ 200_000 ∷ 400_000 ∷ 800_000 ∷ 1_600_000 ∷ [])
+t = gives-bags standardBags
 
 -- u. links 2 and 3 (priority 1) at 1,000, link 1 (priority 0) at 1,500, as link 2 is freed: link 1 goes first
 abbrev pub u : Example

@@ -2,7 +2,7 @@
 use mathlib.Core.Bool.{Bool, true, false, cond}
 use mathlib.Core.Option.{Option, none, some}
 use mathlib.Core.List.{List, [], _∷_}
-use Prim.Native.Nat.{ℕ, _+_, max}
+use Prim.Native.Nat.{ℕ, _+_, _*_, _^_, min, max}
 use lib.Dec.{eqb}
 use lib.ListN.{getD}
 use Rattle.model.specs.Basics.{provided, further}
@@ -18,9 +18,14 @@ pub record VirtualLink : Type 0 where
   pub greatest : ℕ
   pub jitter : ℕ
 
--- "Its BAG is B", by its code; a code above 7 meets check 4, and has the last
+-- "Its BAG is B": "definition and code take 12,500 × 2^code". A code above 7 meets check 4, and has the BAG of 7
 unfoldable pub bagOf : ℕ → ℕ
-bagOf code = getD (12_500 ∷ 25_000 ∷ 50_000 ∷ 100_000 ∷ 200_000 ∷ 400_000 ∷ 800_000 ∷ 1_600_000 ∷ []) code 1_600_000
+bagOf code = 12_500 * 2 ^ min code 7
+
+-- "12,500; 25,000; 50,000; 100,000; 200,000; 400,000; 800,000; 1,600,000 ticks (1 to 128 ms)": the standard's table, by codes.
+-- That the formula gives it is the theorem BagConstants
+abbrev pub standardBags : List ℕ
+standardBags = 12_500 ∷ 25_000 ∷ 50_000 ∷ 100_000 ∷ 200_000 ∷ 400_000 ∷ 800_000 ∷ 1_600_000 ∷ []
 
 abbrev pub bag : VirtualLink → ℕ
 bag v = bagOf (v .code)

@@ -6,7 +6,8 @@ use mathlib.Core.List.{List, [], _∷_, _++_}
 use Prim.Native.Nat.{ℕ, _+_, _-_, _%_, _^_, _≤_, _<_}
 use lib.Dec.{eqb, leb}
 use lib.ListN.{length, getD}
-use Rattle.model.specs.Link.{VirtualLink, linkAt, anyOf}
+use Rattle.model.specs.Basics.{eight}
+use Rattle.model.specs.Link.{VirtualLink, bagOf, standardBags, linkAt, anyOf}
 use Rattle.model.specs.Table.{Table, tableRefusal}
 use Rattle.model.specs.Digits.{digitsOf, fromDigits, AllDigits}
 use Rattle.model.specs.TableFile.{tableBytes, readTable, fileLength}
@@ -30,6 +31,14 @@ WritesRead = (file : List ℕ) → ((i : ℕ) → i < length file → getD file 
 -- "A file has 44 + 18 × n bytes"
 abbrev pub FileLength : Type 0
 FileLength = (t : Table) → tableRefusal t ≡ 0 → length (tableBytes t) ≡ fileLength t
+
+-- "That this gives the eight constants of document 01 for codes 0 to 7 is proved": the formula beside the standard's table
+abbrev pub BagConstants : Type 0
+BagConstants = eight bagOf ≡ standardBags
+
+-- ".. and no answer of any function changes": a code above 7 has the last of the eight, as before
+abbrev pub LastBag : Type 0
+LastBag = (code : ℕ) → 7 < code → bagOf code ≡ bagOf 7
 
 -- Demand 3, "for every list of frame and wait reports, refused ones among them, from a fresh port whose table has bounds"
 abbrev pub DemandThree : Type 0

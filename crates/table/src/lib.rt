@@ -1,6 +1,9 @@
 // The table record, and its checks.
 pub mod checks;
 
+use numbers::smaller;
+use numbers::u8_as_u64;
+use units::LEAST_BAG;
 ghost use mathlib.Core.Path.{_≡_};
 ghost use Rattle.model.specs.Link.{bagOf};
 ghost use Rattle.model.specs.Table.{blankTable, tableRefusal};
@@ -24,20 +27,12 @@ pub struct Table {
     pub sizes: [u32; 8],
 }
 
-// The BAG of a code, in ticks; a code above 7 has the last.
+// The BAG of a code, in ticks: 12,500 × 2^code; a code above 7 has that of 7.
 pub fn bag(code: u8) -> u64
     ensures { λ r. ⌜ r ≡ bagOf code ⌝ }
 {
-    match code {
-        0 => 12500,
-        1 => 25000,
-        2 => 50000,
-        3 => 100000,
-        4 => 200000,
-        5 => 400000,
-        6 => 800000,
-        _ => 1600000,
-    }
+    let k = smaller(u8_as_u64(code), 7);
+    LEAST_BAG * (1 << k)
 }
 
 // 0, or the number of the first check from 3 to 6 that the table meets.

@@ -1,6 +1,6 @@
-// Runs the cases of standard input through the reader, the check and the writer of tables, and prints
+// Runs the cases of standard input through the reader, the check and the writer of tables and the BAG of a code, and prints
 // a line for each. What it must print was computed by reference/, whose src/cases/table.rs has the form
-// of a case: form (1: a file, 2: a record), length in two bytes, as many bytes.
+// of a case: form (1: a file, 2: a record, 3: a BAG code), length in two bytes, as many bytes.
 use libc::STDIN_FILENO;
 use libc::STDOUT_FILENO;
 use little_endian::read1;
@@ -49,8 +49,10 @@ fn one_case(form: u8, length: isize, body: &[u8]) {
     let n = io::count(length, body);
     if form == 1 {
         file_case(&body[..n]);
-    } else {
+    } else if form == 2 {
         record_case(&body[..n]);
+    } else {
+        bag_case(&body[..n]);
     }
 }
 
@@ -99,6 +101,12 @@ fn record_case(body: &[u8]) {
     }
     say(b" ");
     print(sum(&output, length));
+    say(b"\n");
+}
+
+fn bag_case(body: &[u8]) {
+    say(b"bag ");
+    print(table::bag(read1(body, 0)));
     say(b"\n");
 }
 

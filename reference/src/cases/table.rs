@@ -1,10 +1,10 @@
-//! The cases of the table: files for the reader, records for the check and the writer.
+//! The cases of the table: files for the reader, records for the check and the writer, every BAG code.
 //!
-//! Standard input is a run of cases: form (1 byte; 1 a file, 2 a record), length (2 bytes, little-endian),
-//! and as many bytes. Standard output has a line for each.
+//! Standard input is a run of cases: form (1 byte; 1 a file, 2 a record, 3 a BAG code), length (2 bytes,
+//! little-endian), and as many bytes. Standard output has a line for each.
 
 use super::{table_files, table_records, Cases};
-use crate::table::{check, read, write};
+use crate::table::{bag, check, read, write};
 use table_records::Record;
 
 /// The room for a table that was read and is written again; a file of 256 links has 4,652 bytes.
@@ -56,11 +56,14 @@ pub fn cases() -> Cases {
     for record in table_records::all() {
         add(&mut cases, 2, &record.bytes(), &record_line(&record));
     }
+    for code in 0..=255 {
+        add(&mut cases, 3, &[code], &format!("bag {}", bag(code)));
+    }
     cases.summary = summary(&cases.stdout);
     cases
 }
 
-/// How many cases have each answer: of a file its refusal or 0, of a record what the writer answers.
+/// How many cases of files and records have each answer: of a file its refusal or 0, of a record what the writer answers.
 fn summary(stdout: &[u8]) -> String {
     let text = String::from_utf8_lossy(stdout);
     let mut files = [0; 10];
@@ -71,6 +74,7 @@ fn summary(stdout: &[u8]) -> String {
             ["refused", number] => files[number.parse::<usize>().expect("a number")] += 1,
             ["table", ..] => files[0] += 1,
             ["check", _, "refused", number, _] => records[number.parse::<usize>().expect("a number")] += 1,
+            ["bag", _] => {}
             _ => records[0] += 1,
         }
     }
