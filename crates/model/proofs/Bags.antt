@@ -26,8 +26,11 @@ bag-power code h = let e : min code 7 ≡ code = omega arith in rw e at (bag-cap
 pub bag-least : (code : ℕ) → 12_500 ≤ bagOf code
 bag-least code = rw bag-capped (mul-le-mul-left 12_500 (one-le-pow (min code 7) 2 (omega arith)))
 
+pub power-few : (k : ℕ) → k ≤ 7 → 2 ^ k ≤ 128
+power-few k h = pow-le-pow-right {n = 2} (omega arith) {i = k} {j = 7} h
+
 pub bag-most : (code : ℕ) → bagOf code ≤ 1_600_000
-bag-most code = rw bag-capped (mul-le-mul-left 12_500 (pow-le-pow-right {n = 2} (omega arith) {i = min code 7} {j = 7} (omega arith)))
+bag-most code = rw bag-capped (mul-le-mul-left 12_500 (power-few (min code 7) (omega arith)))
 
 pub bag-positive : (v : VirtualLink) → 0 < bag v
 bag-positive v = omega (arith, bag-least (v .code))

@@ -1,13 +1,9 @@
 -- The BAG of a code by the model's law: the power of two as it is shifted, within 64 bits.
 use mathlib.Core.Path.{_≡_, sym, ap, _∙_}
 use Prim.Native.Nat.{ℕ, _*_, _%_, _^_, _≤_, min}
-use native.Mathlib.Nat.{pow-le-pow-right}
 use native.Mathlib.Omega.{arith}
 use Rattle.model.specs.Link.{bagOf}
-use Rattle.model.proofs.Bags.{bag-capped}
-
-pub power-few : (k : ℕ) → k ≤ 7 → 2 ^ k ≤ 128
-power-few k h = pow-le-pow-right {n = 2} (omega arith) {i = k} {j = 7} h
+use Rattle.model.proofs.Bags.{bag-capped, power-few}
 
 shifted : (k : ℕ) → k ≤ 7 → 1 * 2 ^ k % 2 ^ 64 ≡ 2 ^ k
 shifted k h = omega (arith, power-few k h)

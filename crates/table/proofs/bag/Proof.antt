@@ -1,6 +1,7 @@
 use native.Mathlib.Omega.{arith}
 use borrow.Author.Needs.{needs}
-use Rattle.table.proofs.Bags.{power-few, bag-shifted}
+use Rattle.model.proofs.Bags.{power-few}
+use Rattle.table.proofs.Bags.{bag-shifted}
 use Rattle.table.proofs.bag.Statement.{statement}
 use Rattle.table.proofs.bag.Tie as tie
 
