@@ -13,6 +13,7 @@ pub mod Fitness
 pub mod Report
 pub mod Sheet
 pub mod Run
+pub mod Batch
 pub mod Redundancy
 pub mod Promises
 pub mod RedundancyExamples
