@@ -37,3 +37,11 @@ unfolding entries
 entries-next b zero l x h = absurd (omega arith)
 entries-next b (suc n) [] x h = refl
 entries-next {A = A} b (suc n) (y ∷ l) x h = ap (λ (r : List A). y ∷ r) (entries-next b n l x (omega arith))
+
+-- an entry is set
+pub entries-set {ℓ} : {A : Type ℓ} (b : A) (n : ℕ) (l : List A) (i : ℕ) (x : A) → i < length l → entries b n (set l i x) ≡ set (entries b n l) i x
+unfolding entries
+entries-set b zero l i x h = refl
+entries-set b (suc n) [] i x h = absurd (omega arith)
+entries-set b (suc n) (y ∷ l) zero x h = refl
+entries-set {A = A} b (suc n) (y ∷ l) (suc i) x h = ap (λ (r : List A). y ∷ r) (entries-set b n l i x (omega arith))

@@ -38,6 +38,7 @@ pub mod Departures
 -- ---- reports: refusals, cases of a step, the log, what every list of reports keeps, fitness
 pub mod Refusals
 pub mod Stepping
+pub mod Accepted
 pub mod Lined
 pub mod Log
 pub mod Invariant
@@ -47,6 +48,8 @@ pub mod FitKept
 pub mod Levels
 pub mod Demand
 pub mod Later
+-- ---- batches
+pub mod Batches
 -- ---- networks A and B
 pub mod RedundancyExamples
 pub mod Selections

@@ -1,9 +1,9 @@
 -- Lists made of a function.
-use mathlib.Core.Path.{_≡_, refl}
-use mathlib.Core.List.{List, [], _∷_, _++_, flatMap}
+use mathlib.Core.Path.{_≡_, refl, ap}
+use mathlib.Core.List.{List, [], _∷_, _++_, append-nil, append-assoc, map, flatMap}
 use Prim.Native.Nat.{ℕ, zero, suc, _*_, _<_}
 use native.Mathlib.Omega.{arith}
-use lib.ListN.{length, getD, length-append}
+use lib.ListN.{length, getD, set, length-append}
 use Rattle.model.specs.Basics.{eight, Each, done, also}
 
 -- f 0, .., f (n − 1): at 8 this is eight f
@@ -27,3 +27,13 @@ length-flatMap f k each (x ∷ l) = rw length-append (omega (arith, each x, leng
 pub each-of-both : {A : Type 0} {P : A → Type 0} {l m : List A} → Each P l → Each P m → Each P (l ++ m)
 each-of-both done more = more
 each-of-both (also x rest) more = also x (each-of-both rest more)
+
+pub map-set {ℓ κ} : {A : Type ℓ} {B : Type κ} (f : A → B) (l : List A) (i : ℕ) (x : A) → map f (set l i x) ≡ set (map f l) i (f x)
+map-set f [] i x = refl
+map-set f (y ∷ l) zero x = refl
+map-set {B = B} f (y ∷ l) (suc i) x = ap (λ (r : List B). f y ∷ r) (map-set f l i x)
+
+pub flatMap-more : {A : Type 0} {B : Type 0} (f : A → List B) (l : List A) (x : A) → flatMap f (l ++ (x ∷ [])) ≡ flatMap f l ++ f x
+unfolding flatMap
+flatMap-more f [] x = rw append-nil
+flatMap-more f (y ∷ l) x = rw append-assoc (ap (λ r. f y ++ r) (flatMap-more f l x))

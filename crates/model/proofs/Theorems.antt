@@ -1,7 +1,7 @@
 -- The theorems of specs/Promises.antt and specs/Examples.antt, each under its name.
 use Rattle.model.specs.Basics.{also}
 use Rattle.model.proofs.Lists.{each-of-both}
-use Rattle.model.specs.Promises.{ReadsWritten, WritesRead, FileLength, BagConstants, LastBag, DemandThree, NeverUnfit, FitnessKept, LengthsKept, CurveGrows, HoldIsSmallest, HoldGrows, BoundIsGreatest, NoneAppears, DeparturesInTime, DeparturesSpaced, PassedKeep, DigitsRead, DigitsWritten, AmongByDistance, OneOfTwo, SelectedAlways}
+use Rattle.model.specs.Promises.{ReadsWritten, WritesRead, FileLength, BagConstants, LastBag, DemandThree, NeverUnfit, FitnessKept, LengthsKept, TurnsAreRuns, DemandThreeOfTurns, CurveGrows, HoldIsSmallest, HoldGrows, BoundIsGreatest, NoneAppears, DeparturesInTime, DeparturesSpaced, PassedKeep, DigitsRead, DigitsWritten, AmongByDistance, OneOfTwo, SelectedAlways}
 use Rattle.model.specs.Examples.{ExamplesCorrect}
 use Rattle.model.proofs.Digits as Digits
 use Rattle.model.proofs.ReadBack as ReadBack
@@ -14,6 +14,7 @@ use Rattle.model.proofs.Fitness as Fitness
 use Rattle.model.proofs.FitKept as FitKept
 use Rattle.model.proofs.Demand as Demand
 use Rattle.model.proofs.Later as Later
+use Rattle.model.proofs.Batches as Batches
 use Rattle.model.proofs.RedundancyExamples as selected
 use Rattle.model.proofs.Selections as Selections
 use Rattle.model.proofs.Examples as shown
@@ -47,6 +48,12 @@ fitness-kept = FitKept.fitness-kept
 
 pub lengths-kept : LengthsKept
 lengths-kept = FitKept.lengths-kept
+
+pub turns-are-runs : TurnsAreRuns
+turns-are-runs = Batches.turns-are-runs
+
+pub demand-three-of-turns : DemandThreeOfTurns
+demand-three-of-turns = Batches.demand-of-turns
 
 pub curve-grows : CurveGrows
 curve-grows = Curves.curve-grows

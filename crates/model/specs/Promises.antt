@@ -18,6 +18,7 @@ use Rattle.model.specs.Port.{Port}
 use Rattle.model.specs.Fitness.{fit}
 use Rattle.model.specs.Report.{Call, step}
 use Rattle.model.specs.Run.{Entry, run, passedBy, departuresBy, without, heldFrames, hasPriority, ticksOf, KeepBagAndJitter, Always, Demand3}
+use Rattle.model.specs.Batch.{Turn, runTurns}
 use Rattle.model.specs.Redundancy.{State, Presented, among, select, entryOf, handsOn, howMany, Refused, Copies, Selected}
 use Rattle.model.specs.Redundancy as redundancy
 
@@ -59,6 +60,18 @@ LengthsKept = (t : Table) (s : Port) (c : Call)
     → (length (step t s c .port .marks) ≡ length (s .marks))
     × (length (step t s c .port .gate .lineTicks) ≡ length (s .gate .lineTicks))
     × (length (step t s c .port .gate .accounts) ≡ length (s .gate .accounts))
+
+-- ---- batches
+
+-- a list of single calls and batches is a list of single calls, with the same port and the same log
+abbrev pub TurnsAreRuns : Type 0
+TurnsAreRuns = (t : Table) (turns : List Turn) → (calls : List Call) × (runTurns t turns ≡ run t calls)
+
+-- demand 3 of every mix of batches and single calls
+abbrev pub DemandThreeOfTurns : Type 0
+DemandThreeOfTurns = (t : Table) → boundsRefusal t ≡ 0 → (turns : List Turn) → Demand3 t (runTurns t turns)
+
+-- ---- curves, holds and bounds
 
 -- a weight on lengths: it grows with the length and is never more
 pub record Weight (weight : ℕ → ℕ) : Type 0 where

@@ -20,7 +20,7 @@ use Rattle.port.specs.Contracts.{Answered}
 use Rattle.port.specs.Advancing.{Reached, Begun}
 use Rattle.port.specs.Judging.{Arrived, Judges}
 use Rattle.port.proofs.Whole.{Whole}
-use Rattle.port.proofs.Accepted.{fit-port, arrives, waits-too}
+use Rattle.model.proofs.Accepted.{fit-port, arrives, waits-too}
 use Rattle.port.proofs.Moved.{NotRefused, accepts}
 
 -- ---- a wait

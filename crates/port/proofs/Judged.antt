@@ -32,7 +32,7 @@ use Rattle.port.specs.declared.judging.Judged.{Judged as JudgedRecord}
 use Rattle.port.specs.View.{viewPortTable, viewPort}
 use Rattle.port.specs.Judging.{ticked, Arrived, LetThrough, Polices, Judges}
 use Rattle.port.proofs.Whole.{Whole}
-use Rattle.port.proofs.Stores.{entries-set}
+use Rattle.model.proofs.Entries.{entries-set}
 
 -- a place that the filter gives is that of the number
 admitted-place : (t : Table) (line len i : ℕ) (o : Option ℕ) → admitted t line len o ≡ some i → o ≡ some i

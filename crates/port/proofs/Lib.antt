@@ -1,7 +1,5 @@
 pub mod Whole
-pub mod Stores
 pub mod Element
-pub mod Accepted
 pub mod Refused
 pub mod Moved
 pub mod Stored

@@ -18,7 +18,7 @@ use Rattle.port.specs.declared.Answer.{Answer as AnswerRecord}
 use Rattle.port.specs.View.{viewPortTable, viewPort}
 use Rattle.port.specs.Contracts.{stepFrom, Answered}
 use Rattle.port.specs.Advancing.{Reached, Begun}
-use Rattle.port.proofs.Accepted.{fit-port, timely, enough, waits-too}
+use Rattle.model.proofs.Accepted.{fit-port, timely, enough, waits-too}
 
 -- not refused, being lent a list of that length
 abbrev pub NotRefused : PortRecord → Report → ℕ → Type 0

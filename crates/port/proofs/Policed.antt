@@ -27,7 +27,8 @@ use Rattle.port.specs.View.{viewPortTable, viewPort}
 use Rattle.port.specs.Charging.{chargeBy}
 use Rattle.port.specs.Judging.{linkOf, LetThrough, Stores, Polices}
 use Rattle.port.proofs.Whole.{Whole}
-use Rattle.port.proofs.Stores.{entries-set, map-set}
+use Rattle.model.proofs.Lists.{map-set}
+use Rattle.model.proofs.Entries.{entries-set}
 use Rattle.port.proofs.Stored.{withQueues, settled-verdict, settled-port}
 
 module _ (p : PortRecord) (w : Whole p) (i len : ℕ) (k : LetThrough p i len) where

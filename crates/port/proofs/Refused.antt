@@ -17,6 +17,7 @@ use Rattle.port_record_fitness.specs.Fitness.{portFitness}
 use Rattle.port_refusals.specs.Reports.{Clocked}
 use Rattle.port.specs.declared.Port.{Port as PortRecord}
 use Rattle.port.specs.View.{viewPortTable, viewPort}
+use Rattle.port.proofs.Whole.{Whole}
 
 module _ (p : PortRecord) {x : Fitness} (tested : x ≡ portFitness (p .table) (p .clock) (p .queues) (p .sender) (p .gate)) where
   fits-is : x .fits ≡ fit (viewPortTable p) (viewPort p)
@@ -35,9 +36,9 @@ module _ (p : PortRecord) {x : Fitness} (tested : x ≡ portFitness (p .table) (
     frames-are = ap (λ (f : Fitness). f .frames) tested ∙ ap (λ (b : Bool). provided b (framesHeld (viewQueues (p .queues)))) (sym (ap (λ (f : Fitness). f .fits) tested) ∙ good)
 
     -- 11 to 15 are asked of lines and ticks of a fit port
-    pub clocked : Clocked (p .gate .«line_ticks») (p .table .lines)
+    pub clocked : Whole p → Clocked (p .gate .«line_ticks») (p .table .lines)
     unfolding viewTable viewPort
-    clocked = record { few = is-fit .table .counts .lines-most; early = λ ℓ l. omega (arith, is-fit .gate .lines-past ℓ l, is-fit .early) }
+    clocked w = record { few = omega (arith, is-fit .table .counts .lines-most, w .lines); early = λ ℓ l. omega (arith, is-fit .gate .lines-past ℓ l, is-fit .early) }
 
     module _ (r : Report) (room : ℕ) {n : ℕ} (later : n ≡ firstMet (reportChecks (p .clock) (p .table .lines) (viewPort p .gate .lineTicks) r)) where
       by-parts : reportRefusal (viewPortTable p) (viewPort p) r room ≡ firstRefusal n (firstMet (roomCheck (x .frames) room ∷ []))

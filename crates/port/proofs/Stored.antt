@@ -19,7 +19,7 @@ use Rattle.port_storing.specs.declared.Settled.{Settled}
 use Rattle.port_storing.specs.Storing.{verdictIf, Kept, Settles}
 use Rattle.port.specs.declared.Port.{Port as PortRecord}
 use Rattle.port.specs.View.{viewPort}
-use Rattle.port.proofs.Stores.{map-set}
+use Rattle.model.proofs.Lists.{map-set}
 
 -- the port with those queues, and all else as it is
 abbrev pub withQueues : PortRecord → List Queue → PortRecord

@@ -1,5 +1,6 @@
 // The refusals of a report: 10; then 11 to 15, of a port that is fit; then 16.
 use crate::Port;
+use numbers::u16_as_u64;
 use port_refusals::Report;
 ghost use mathlib.Core.Path.{_≡_};
 ghost use Rattle.model.specs.Report.{reportRefusal};
@@ -19,7 +20,7 @@ pub(crate) fn refusal(p: Port, report: Report, room: usize) -> u32
         return 10;
     }
     let ticks = gate.line_ticks;
-    let refused = port_refusals::refusal(p.clock, t.lines, ticks, report);
+    let refused = port_refusals::refusal(p.clock, u16_as_u64(t.lines), &ticks, report);
     if refused != 0 {
         return refused;
     }

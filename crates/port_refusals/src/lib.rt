@@ -1,5 +1,4 @@
 // Internal to the product: reports, and their refusals 11 to 16 over numbers of a port that is fit.
-use numbers::u16_as_u64;
 use units::LAST_TICK;
 ghost use mathlib.Core.Path.{_≡_};
 ghost use mathlib.Core.List.{[], _∷_};
@@ -23,14 +22,14 @@ pub fn tick_of(report: Report) -> u64
 }
 
 // 13 to 15, of a frame report alone.
-fn frame_refusal(lines: u16, ticks: [u64; 24], report: Report) -> u32
-    requires { ⌜ Clocked ticks lines ⌝ }
-    ensures { λ r. ⌜ r ≡ firstMet (frameChecks lines (entries 0 lines ticks) (viewReport report)) ⌝ }
+fn frame_refusal(lines: u64, ticks: &[u64], report: Report) -> u32
+    requires { ⌜ Clocked (now ticks) lines ⌝ }
+    ensures { λ r. ⌜ r ≡ firstMet (frameChecks lines (entries 0 lines (now (ticks .entry))) (viewReport report)) ⌝ }
 {
     let Report::Frame(time, line, _, length) = report else {
         return 0;
     };
-    if u16_as_u64(lines) <= line {
+    if lines <= line {
         return 13;
     }
     if !units::is_length(length) {
@@ -44,9 +43,9 @@ fn frame_refusal(lines: u16, ticks: [u64; 24], report: Report) -> u32
 }
 
 // 11 to 15.
-pub fn refusal(clock: u64, lines: u16, ticks: [u64; 24], report: Report) -> u32
-    requires { ⌜ Clocked ticks lines ⌝ }
-    ensures { λ r. ⌜ r ≡ firstMet (reportChecks clock lines (entries 0 lines ticks) (viewReport report)) ⌝ }
+pub fn refusal(clock: u64, lines: u64, ticks: &[u64], report: Report) -> u32
+    requires { ⌜ Clocked (now ticks) lines ⌝ }
+    ensures { λ r. ⌜ r ≡ firstMet (reportChecks clock lines (entries 0 lines (now (ticks .entry))) (viewReport report)) ⌝ }
 {
     let time = tick_of(report);
     if LAST_TICK < time {
