@@ -1,24 +1,25 @@
--- The list and the bytes, one departure more.
-use mathlib.Core.Path.{_≡_, refl, ap}
+-- Three numbers into a list; the list of departures, one more.
+use mathlib.Core.Path.{_≡_, refl, ap, _∙_}
 use mathlib.Core.List.{List, [], _∷_, _++_, append-assoc, flatMap}
-use Prim.Native.Nat.{ℕ, _+_, _*_}
+use Prim.Native.Nat.{ℕ, suc, _+_, _*_, _≤_}
 use native.Mathlib.Omega.{arith}
-use lib.ListN.{length, take, drop}
-use lib.Seq.{take-at, drop-at, drop-drop}
-use Rattle.model.specs.Units.{occupied}
+use lib.ListN.{length, take, drop, set}
+use lib.Seq.{sets-eq, take-at, drop-at, drop-drop}
 use Rattle.model.specs.Machine.{Departure}
-use Rattle.model.specs.Report.{threeNumbers, bytesFreed}
+use Rattle.model.specs.Report.{threeNumbers}
 use Rattle.model.proofs.Lists.{length-flatMap}
+
+pub three-set : (list : List ℕ) (k a b c : ℕ) → k + 3 ≤ length list → set (set (set list k a) (k + 1) b) (k + 2) c ≡ take k list ++ (a ∷ b ∷ c ∷ drop (k + 3) list)
+three-set list k a b c h =
+    let one : k + 1 ≡ suc k = omega arith in
+    let two : k + 2 ≡ suc (suc k) = omega arith in
+    let three = a ∷ b ∷ c ∷ [] in
+    rw (one, two) (sets-eq three list k h ∙ append-assoc (take k list) three (drop (k + 3) list))
 
 flat-more : (ds : List Departure) (d : Departure) → flatMap threeNumbers (ds ++ (d ∷ [])) ≡ flatMap threeNumbers ds ++ threeNumbers d
 unfolding flatMap
 flat-more [] d = refl
 flat-more (x ∷ ds) d = ap (λ (l : List ℕ). x .number ∷ x .length ∷ x .freed ∷ l) (flat-more ds d)
-
-pub freed-more : (ds : List Departure) (d : Departure) → bytesFreed (ds ++ (d ∷ [])) ≡ bytesFreed ds + occupied (d .length)
-unfolding bytesFreed
-freed-more [] d = omega arith
-freed-more (x ∷ ds) d = omega (arith, freed-more ds d)
 
 pub list-more : (ds : List Departure) (d : Departure) (k : ℕ) (list₀ list : List ℕ) → k ≡ length ds → list ≡ flatMap threeNumbers ds ++ drop (3 * k) list₀ →
     take (3 * k) list ++ (d .number ∷ d .length ∷ d .freed ∷ drop (3 * k + 3) list) ≡ flatMap threeNumbers (ds ++ (d ∷ [])) ++ drop (3 * (k + 1)) list₀

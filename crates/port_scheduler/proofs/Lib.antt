@@ -5,4 +5,5 @@ pub mod Sums
 pub mod Starts
 pub mod Departed
 pub mod Progress
+pub mod Moving
 pub mod Callers

@@ -1,47 +1,40 @@
--- How far the loop of the advance is: the tick machine's advance from the start is what has left so far, and the advance from here.
-use mathlib.Core.Path.{_≡_, refl, ap, _∙_}
+-- How far the loop of an advance is, over the model's queues: the tick machine's advance from the start is what has left so far, and the advance from here.
+use mathlib.Core.Path.{_≡_, refl, _∙_}
 use mathlib.Core.Bool.{true}
 use mathlib.Core.List.{List, [], _∷_, _++_, append-nil, flatMap}
 use Prim.Native.Nat.{ℕ, _+_, _*_, _≤_, _<_}
 use native.Mathlib.Decide.{decLe}
 use native.Mathlib.Omega.{arith}
 use borrow.Author.Tests.{ltb-true}
-use lib.ListN.{length, getD, take, drop, set, length-set, length-append, length-drop, List·getD-eq-default}
+use lib.ListN.{length, take, drop, length-set, length-append, length-drop, List·getD-eq-default}
 use Rattle.model.specs.Basics.{Each, done}
-use Rattle.model.specs.Units.{occupied, mostFrames}
+use Rattle.model.specs.Units.{mostFrames}
 use Rattle.model.specs.Machine.{Frame, Sender, idle, sending, Departure, Advance, at, advanced, advance, preceded, departure, queueOf, headOf, withoutHead, framesHeld}
 use Rattle.model.specs.Fitness.{senderFit}
-use Rattle.model.specs.Report.{threeNumbers, bytesFreed}
+use Rattle.model.specs.Report.{threeNumbers}
 use Rattle.model.proofs.Checks.{all-true}
 use Rattle.model.proofs.BusyPeriod.{set-keeps, pop-each}
 use Rattle.model.proofs.FrameByFrame.{under-way, sent, preceded-preceded}
-use Rattle.port_scheduler.specs.declared.Queue.{Queue}
-use Rattle.port_scheduler.specs.declared.Sender.{Sender as SenderRecord}
-use Rattle.port_scheduler.specs.declared.Sender.the-variants.{Idle, Sending}
-use Rattle.port_scheduler.specs.View.{blankQueue, viewQueues, viewMarks, viewSender}
-use Rattle.port_scheduler.specs.Contracts.{Ready, advanceFrom, Advanced}
-use Rattle.port_scheduler.specs.Sending.{UnderWay, Sends, Positive, GoesOn, HeadGone}
-use Rattle.port_scheduler.proofs.Shown.{length-shown, queue-count, gone-shown, marks-set}
+use Rattle.port_scheduler.specs.Sending.{UnderWay, Sends, Positive, GoesOn}
 use Rattle.port_scheduler.proofs.Sums.{frames-gone, frames-few}
-use Rattle.port_scheduler.proofs.Departed.{freed-more, list-more}
+use Rattle.port_scheduler.proofs.Departed.{list-more}
 
 abbrev pub Few : List (List Frame) → Type 0
 Few queues = (p : ℕ) → length (queueOf queues p) ≤ mostFrames
 
-pub record Progress (time : ℕ) (whole : Advance) (high list₀ : List ℕ) (qs : List Queue) (s : SenderRecord) (m k b : ℕ) (list : List ℕ) : Type 0 where
+-- of an advance that began with so many frames held and with list₀, k departures later
+pub record Progress (time : ℕ) (whole : Advance) (all : ℕ) (list₀ : List ℕ) (qs : List (List Frame)) (s : Sender) (m k : ℕ) (list : List ℕ) : Type 0 where
   pub gone : List Departure
-  pub split : whole ≡ preceded gone (advanceFrom time m qs s)
-  pub marks : viewMarks qs ≡ high
+  pub split : whole ≡ preceded gone (advance time (at m qs s))
   pub eight : length qs ≡ 8
-  pub few : Few (viewQueues qs)
-  pub positive : Positive (viewQueues qs)
-  pub sends : Sends (viewQueues qs) (viewSender s) m
+  pub few : Few qs
+  pub positive : Positive qs
+  pub sends : Sends qs s m
   pub later : m ≤ time
   pub count : k ≡ length gone
-  pub sum : b ≡ bytesFreed gone
-  pub small : b ≤ 65535 * k
-  pub most : k + framesHeld (viewQueues qs) ≤ mostFrames * 8
-  pub room : 3 * (k + framesHeld (viewQueues qs)) ≤ length list₀
+  pub none-lost : k + framesHeld qs ≡ all
+  pub most : all ≤ mostFrames * 8
+  pub room : 3 * all ≤ length list₀
   pub listing : list ≡ flatMap threeNumbers gone ++ drop (3 * k) list₀
   pub same : length list ≡ length list₀
 
@@ -66,99 +59,88 @@ everywhere Q queues n x e p = go (decLe 8 p)
     go (yes l) = rw (List·getD-eq-default queues [] {n = p} (omega arith)) x
     go (no l) = e p (omega arith)
 
-pub at-start : {qs : List Queue} {s : SenderRecord} {m time : ℕ} {list₀ : List ℕ} → length qs ≡ 8 → Ready qs s m time (length list₀) →
-    Progress time (advanceFrom time m qs s) (viewMarks qs) list₀ qs s m 0 0 list₀
-unfolding flatMap bytesFreed
-at-start {qs} {s} {m} {time} {list₀} n r =
-    let e : length (viewQueues qs) ≡ 8 = length-shown qs ∙ n in
-    let f : Few (viewQueues qs) = everywhere (λ l. length l ≤ mostFrames) (viewQueues qs) e (omega arith) (r .few) in
+pub at-start : {qs : List (List Frame)} {s : Sender} {m time : ℕ} {list₀ : List ℕ} → length qs ≡ 8 → ((p : ℕ) → p < 8 → length (queueOf qs p) ≤ mostFrames) →
+    ((p : ℕ) → p < 8 → Each (λ (f : Frame). 0 < f .length) (queueOf qs p)) → senderFit m qs s ≡ true → m ≤ time → 3 * framesHeld qs ≤ length list₀ →
+    Progress time (advance time (at m qs s)) (framesHeld qs) list₀ qs s m 0 list₀
+unfolding flatMap
+at-start {qs} {s} {m} n few positive sender later room =
+    let f : Few qs = everywhere (λ l. length l ≤ mostFrames) qs n (omega arith) few in
     record {
       gone = [];
       split = refl;
-      marks = refl;
       eight = n;
       few = f;
-      positive = everywhere (λ l. Each (λ (f : Frame). 0 < f .length) l) (viewQueues qs) e done (r .positive);
-      sends = fit-sends m (viewQueues qs) (viewSender s) (r .sender);
-      later = r .later;
+      positive = everywhere (λ l. Each (λ (f : Frame). 0 < f .length) l) qs n done positive;
+      sends = fit-sends m qs s sender;
+      later = later;
       count = refl;
-      sum = refl;
-      small = omega arith;
-      most = omega (arith, frames-few (viewQueues qs) mostFrames f);
-      room = omega (arith, r .room);
+      none-lost = omega arith;
+      most = omega (arith, frames-few qs mostFrames f);
+      room = room;
       listing = refl;
       same = refl;
     }
 
+pub few-gone : {time : ℕ} {whole : Advance} {all : ℕ} {list₀ : List ℕ} {qs : List (List Frame)} {s : Sender} {m k : ℕ} {list : List ℕ} →
+    Progress time whole all list₀ qs s m k list → k ≤ mostFrames * 8
+few-gone f = omega (arith, f .none-lost, f .most)
+
 -- ---- who sends has a head that is not through
-pub is-sending : {qs : List (List Frame)} {s : Sender} {r : SenderRecord} {m time p start : ℕ} → GoesOn qs s m time (viewSender r) → r ≡ Sending p start → UnderWay qs p start m
-is-sending {qs} {s} {r} {m} {time} {p} {start} g e = rw e at (g .sends)
+pub is-sending : {qs : List (List Frame)} {s r : Sender} {m time p start : ℕ} → GoesOn qs s m time r → r ≡ sending p start → UnderWay qs p start m
+is-sending g e = rw e at (g .sends)
 
-module _ {time : ℕ} {whole : Advance} {high list₀ : List ℕ} {qs : List Queue} {s : SenderRecord} {m k b : ℕ} {list : List ℕ} (f : Progress time whole high list₀ qs s m k b list)
-    {r : SenderRecord} (g : GoesOn (viewQueues qs) (viewSender s) m time (viewSender r)) where
-  ends-here : advanceFrom time m qs s ≡ advanced [] (at time (viewQueues qs) (viewSender r)) → Advanced whole high list₀ list (record { queues = qs; sender = r; frames = k; bytes = b })
-  ends-here e =
-      let w : whole ≡ advanced (f .gone) (at time (viewQueues qs) (viewSender r)) = rw (f .split, e, append-nil) in
-      rw w (record {
-        queues = refl;
-        marks = f .marks;
-        sender = refl;
-        frames = f .count;
-        bytes = f .sum;
-        list = rw (← f .count) (f .listing);
-        eight = f .eight;
-        few = λ p h. rw (← queue-count qs p) (f .few p);
-      })
+-- one frame less waits where it has left
+pub fewer : {qs : List (List Frame)} {s r : Sender} {m time p start : ℕ} → GoesOn qs s m time r → r ≡ sending p start → {qs' : List (List Frame)} → qs' ≡ withoutHead qs p → framesHeld qs' < framesHeld qs
+fewer {qs} {p = p} g e hg = let o = is-sending g e in rw hg (omega (arith, frames-gone qs p (o .waits)))
 
+module _ {time : ℕ} {whole : Advance} {all : ℕ} {list₀ : List ℕ} {qs : List (List Frame)} {s : Sender} {m k : ℕ} {list : List ℕ} (f : Progress time whole all list₀ qs s m k list)
+    {r : Sender} (g : GoesOn qs s m time r) where
   -- nobody is left to send
-  pub over-idle : r ≡ Idle → Advanced whole high list₀ list (record { queues = qs; sender = r; frames = k; bytes = b })
-  over-idle e = ends-here (g .same ∙ g .over (ap viewSender e) ∙ rw e)
+  pub over-idle : r ≡ idle → advance time (at m qs s) ≡ advanced [] (at time qs r)
+  over-idle e = g .same ∙ g .over e ∙ rw e
 
-  module _ {p start : ℕ} (e : r ≡ Sending p start) where
+  -- no more leaves
+  pub whole-is : advance time (at m qs s) ≡ advanced [] (at time qs r) → whole ≡ advanced (f .gone) (at time qs r)
+  whole-is e = rw (f .split, e, append-nil)
+
+  module _ {p start : ℕ} (e : r ≡ sending p start) where
     pub has-room : 3 * k + 3 ≤ length list
-    has-room = let o = is-sending g e in omega (arith, frames-gone (viewQueues qs) p (o .waits), f .room, f .same)
+    has-room = let o = is-sending g e in omega (arith, frames-gone qs p (o .waits), f .none-lost, f .room, f .same)
 
-    module _ {len : ℕ} (le : len ≡ headOf (viewQueues qs) p .length) where
+    module _ {len : ℕ} (le : len ≡ headOf qs p .length) where
       -- a frame is under way
-      pub over-sending : time < start + len → Advanced whole high list₀ list (record { queues = qs; sender = Sending p start; frames = k; bytes = b })
+      pub over-sending : time < start + len → advance time (at m qs s) ≡ advanced [] (at time qs r)
       over-sending h =
-          let v : time < start + headOf (viewQueues qs) p .length = omega arith in
-          rw e at (ends-here (rw e (rw e at (g .same) ∙ under-way (viewQueues qs) p start time m (f .later) v)))
+          let v : time < start + headOf qs p .length = omega arith in
+          g .same ∙ rw e (under-way qs p start time m (f .later) v)
 
       -- a frame leaves
-      pub one-more : {n c : ℕ} → n ≡ headOf (viewQueues qs) p .number → c ≡ occupied len → c ≤ 65535 → start + len ≤ time → {rest : Queue} → HeadGone (getD qs p blankQueue) rest → {list' : List ℕ} →
+      pub leaves : start + len ≤ time →
+          advance time (at m qs s) ≡ preceded (departure (headOf qs p) (start + headOf qs p .length) ∷ []) (advance time (at (start + headOf qs p .length) (withoutHead qs p) idle))
+      leaves h = let o = is-sending g e in g .same ∙ rw e (sent qs p start time m (o .ends) (omega arith))
+
+      pub one-more : {n : ℕ} → n ≡ headOf qs p .number → start + len ≤ time → {qs' : List (List Frame)} → qs' ≡ withoutHead qs p → {list' : List ℕ} →
           list' ≡ take (3 * k) list ++ (n ∷ len ∷ (start + len) ∷ drop (3 * k + 3) list) → length list' ≡ length list →
-          Progress time whole high list₀ (set qs p rest) Idle (start + len) (k + 1) (b + c) list'
-      one-more {n} {c} ne ce small h {rest} hg {list'} q sl =
+          Progress time whole all list₀ qs' idle (start + len) (k + 1) list'
+      one-more {n} ne h {qs'} hg {list'} q sl =
           let o = is-sending g e in
-          let z = length-shown qs in
-          let head = headOf (viewQueues qs) p in
-          let j : advanceFrom time m qs s ≡ advance time (at m (viewQueues qs) (sending p start)) = rw e at (g .same) in
-          let later = advance time (at (start + head .length) (withoutHead (viewQueues qs) p) idle) in
-          let w : whole ≡ preceded (f .gone) (preceded (departure head (start + head .length) ∷ []) later) =
-          rw (f .split, j, sent (viewQueues qs) p start time m (o .ends) (omega arith)) in
+          let head = headOf qs p in
+          let rest = advance time (at (start + head .length) (withoutHead qs p) idle) in
+          let w : whole ≡ preceded (f .gone) (preceded (departure head (start + head .length) ∷ []) rest) = rw (f .split, leaves h) in
           let d : Departure = record { number = n; length = len; freed = start + len } in
-          let i : p < length (viewQueues qs) = omega (arith, f .eight, o .inRange) in
+          let i : p < length qs = omega (arith, f .eight, o .inRange) in
           record {
             gone = f .gone ++ (d ∷ []);
-            split = rw (gone-shown qs p hg, le, ne) (w ∙ preceded-preceded (f .gone) (departure head (start + head .length) ∷ []) later);
-            marks = marks-set qs p rest (hg .mark) ∙ f .marks;
-            eight = rw length-set (f .eight);
-            few =
-                rw (gone-shown qs p hg)
-                (set-keeps (λ q l. length l ≤ mostFrames) (viewQueues qs) p (drop 1 (queueOf (viewQueues qs) p)) i (rw length-drop (omega (arith, f .few p))) (f .few));
-            positive = rw (gone-shown qs p hg) (pop-each (λ q (x : Frame). 0 < x .length) (viewQueues qs) p i (f .positive));
+            split = rw (hg, le, ne) (w ∙ preceded-preceded (f .gone) (departure head (start + head .length) ∷ []) rest);
+            eight = rw (hg, length-set) (f .eight);
+            few = rw hg (set-keeps (λ q l. length l ≤ mostFrames) qs p (drop 1 (queueOf qs p)) i (rw length-drop (omega (arith, f .few p))) (f .few));
+            positive = rw hg (pop-each (λ q (x : Frame). 0 < x .length) qs p i (f .positive));
             sends = tt;
             later = h;
-            count = rw length-append (omega arith);
-            sum = rw (freed-more, ce) (omega arith);
-            small = omega arith;
-            most = rw (gone-shown qs p hg) (omega (arith, frames-gone (viewQueues qs) p (o .waits)));
-            room = rw (gone-shown qs p hg) (omega (arith, frames-gone (viewQueues qs) p (o .waits)));
+            count = rw length-append (omega (arith, f .count));
+            none-lost = rw hg (omega (arith, f .none-lost, frames-gone qs p (o .waits)));
+            most = f .most;
+            room = f .room;
             listing = q ∙ list-more (f .gone) d k list₀ list (f .count) (f .listing);
             same = sl ∙ f .same;
           }
-
-    -- and one frame less waits
-    pub fewer : {rest : Queue} → HeadGone (getD qs p blankQueue) rest → framesHeld (viewQueues (set qs p rest)) < framesHeld (viewQueues qs)
-    fewer hg = let o = is-sending g e in rw (gone-shown qs p hg) (omega (arith, frames-gone (viewQueues qs) p (o .waits)))

@@ -1,11 +1,8 @@
 -- Three stores one after the other.
-use mathlib.Core.Path.{_≡_, _∙_}
-use mathlib.Core.List.{[], _∷_, append-assoc}
-use Prim.Native.Nat.{suc, _+_}
 use native.Mathlib.Omega.{arith}
-use lib.ListN.{take, drop, length-set}
-use lib.Seq.{sets-eq}
+use lib.ListN.{length-set}
 use borrow.Author.Needs.{needs}
+use Rattle.port_scheduler.proofs.Departed.{three-set}
 use Rattle.port_scheduler.proofs.put.Statement.{statement}
 use Rattle.port_scheduler.proofs.put.Tie as tie
 
@@ -37,13 +34,7 @@ same-length : tie.Need-same-length
 same-length c = search needs
 
 returns : tie.Need-returns
-returns c =
-    let s = c .args .list .now in
-    let k = c .args .k in
-    let three = c .args .number ∷ c .args .bytes ∷ c .args .freed ∷ [] in
-    let one : k + 1 ≡ suc k = omega arith in
-    let two : k + 2 ≡ suc (suc k) = omega arith in
-    rw (one, two) (sets-eq three s k (omega arith) ∙ append-assoc (take k s) three (drop (k + 3) s))
+returns c = three-set (c .args .list .now) (c .args .k) (c .args .number) (c .args .bytes) (c .args .freed) (omega arith)
 
 pub put-spec : {M : Type 1} → statement M
 put-spec =
