@@ -27,7 +27,7 @@ pub fn pop(heads: &mut [u64], counts: &mut [u64], p: usize)
 }
 
 // Three numbers into a list.
-fn put(list: &mut [u64], k: usize, a: u64, b: u64, c: u64)
+pub fn put(list: &mut [u64], k: usize, a: u64, b: u64, c: u64)
     requires { ⌜ k + 3 ≤ length (now list) ⌝ }
     ensures { λ _. ⌜ now (list .exit) ≡ set (set (set (now (list .entry)) k a) (k + 1) b) (k + 2) c ⌝ }
 {
