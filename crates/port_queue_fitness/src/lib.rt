@@ -9,6 +9,7 @@ use units::MOST_FRAMES;
 ghost use mathlib.Core.Path.{_≡_};
 ghost use mathlib.Core.Bool.{false};
 ghost use Prim.Native.Nat.{_≤_, _<_};
+ghost use lib.ListN.{length};
 ghost use Rattle.model.specs.Units.{mostFrames};
 ghost use Rattle.model.specs.Table.{tableRefusal};
 ghost use Rattle.table.specs.View.{viewTable};
@@ -47,7 +48,7 @@ fn guesses_of(numbers: &[u16; 256], count: u16) -> [u8; 1024]
 
 // The place of a number, which is often the guess.
 fn place_near(numbers: &[u16; 256], count: u16, number: u16, guess: u8) -> Place
-    requires { ⌜ (0 < count) × (count ≤ 256) × Rising (now numbers) count ⌝ }
+    requires { ⌜ (0 < count) × (count ≤ length (now numbers)) × Rising (now numbers) count ⌝ }
     ensures { λ r. ⌜ Found (now (numbers .entry)) count number r ⌝ }
 {
     if (guess as u16) < count {

@@ -23,8 +23,8 @@ module _ (t : TableRecord) (e : tableRefusal (viewTable t) ≡ 0) where
   pub links-named : Named (t .numbers) (t .count) (viewLinks t)
   links-named = record { count = count-shown t; number = λ i l. ap (λ (v : VirtualLink). v .number) (entry-is t e i l) }
 
-  pub searchable : (0 < t .count) × (t .count ≤ 256) × Rising (t .numbers) (t .count)
+  pub searchable : length (t .numbers) ≡ 256 → (0 < t .count) × (t .count ≤ length (t .numbers)) × Rising (t .numbers) (t .count)
   unfolding viewTable
-  searchable =
+  searchable n =
       let c = counts-pass t e in
-      (c .some-link, c .links-most, named-rise (t .numbers) (t .count) (viewLinks t) links-named (is-passing (viewTable t) e .rising))
+      (c .some-link, omega (arith, c .links-most), named-rise (t .numbers) (t .count) (viewLinks t) links-named (is-passing (viewTable t) e .rising))

@@ -7,6 +7,7 @@ use lib.ListN.{drop}
 use Rattle.model.specs.Units.{occupied}
 use Rattle.model.specs.Fitness.{framesFit}
 use Rattle.table.specs.View.{viewTable}
+use Rattle.table.proofs.Shape.{sized}
 use Rattle.table.proofs.PassingRecord.{counts-pass}
 use Rattle.port_scheduler.specs.View.{viewQueue}
 use Rattle.port_scheduler.proofs.Shape.{queue-whole}
@@ -48,7 +49,7 @@ element-copy-out-guess c = omega arith
 place-near-requires : tie.Need-place-near-requires Inv-loop μ-loop
 place-near-requires c κs =
     let start = c .before .before .before .before .before .before .before in
-    searchable (start .args .t1) (start .pre .0)
+    searchable (start .args .t1) (start .pre .0) (sized (start .args .t1) _ (start .good .0) .numbers)
 
 enum-known-place : tie.Need-enum-known-place Inv-loop μ-loop
 enum-known-place c = search needs

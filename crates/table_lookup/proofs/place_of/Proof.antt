@@ -14,7 +14,7 @@ abbrev μ-loop : tie.MeasureT-loop
 μ-loop numbers count number low₀ span₀ low span = span
 
 loop-holds : tie.Need-loop-holds Inv-loop μ-loop
-loop-holds c = between-start (c .pre .0)
+loop-holds c = between-start (c .before .pre .0)
 
 add-u16-as-u64 : tie.Need-add-u16-as-u64 Inv-loop μ-loop
 add-u16-as-u64 c = omega arith
@@ -22,8 +22,8 @@ add-u16-as-u64 c = omega arith
 mul-u16-as-u64 : tie.Need-mul-u16-as-u64 Inv-loop μ-loop
 mul-u16-as-u64 c = omega arith
 
-element-copy-out-u16-as-u64 : tie.Need-element-copy-out-u16-as-u64 Inv-loop μ-loop
-element-copy-out-u16-as-u64 c = omega arith
+shared-slice-read-u16-as-u64 : tie.Need-shared-slice-read-u16-as-u64 Inv-loop μ-loop
+shared-slice-read-u16-as-u64 c = omega arith
 
 u16-as-u64-requires : tie.Need-u16-as-u64-requires Inv-loop μ-loop
 u16-as-u64-requires c κs = search needs
@@ -39,7 +39,7 @@ loop-less c = omega arith
 
 loop-again : tie.Need-loop-again Inv-loop μ-loop
 loop-again c =
-    let start = c .before .before .before .before .before in
+    let start = c .before .before .before .before .before .before in
     let loop = c .before .before .before .before .loop in
     ⊎-elim
     (λ w. rw (w .1) (upper-half (start .pre .2) (loop .inv) _ refl (omega arith) (omega arith)))
@@ -49,8 +49,8 @@ loop-again c =
 mul-u16-as-u64-2 : tie.Need-mul-u16-as-u64-2 Inv-loop μ-loop
 mul-u16-as-u64-2 c = omega arith
 
-element-copy-out-u16-as-u64-2 : tie.Need-element-copy-out-u16-as-u64-2 Inv-loop μ-loop
-element-copy-out-u16-as-u64-2 c = omega arith
+shared-slice-read-u16-as-u64-2 : tie.Need-shared-slice-read-u16-as-u64-2 Inv-loop μ-loop
+shared-slice-read-u16-as-u64-2 c = omega arith
 
 u16-as-u64-requires-2 : tie.Need-u16-as-u64-requires-2 Inv-loop μ-loop
 u16-as-u64-requires-2 c κs = search needs
@@ -74,14 +74,14 @@ place-of-spec =
     loop-holds
     add-u16-as-u64
     mul-u16-as-u64
-    element-copy-out-u16-as-u64
+    shared-slice-read-u16-as-u64
     u16-as-u64-requires
     add-low
     sub-span
     loop-less
     loop-again
     mul-u16-as-u64-2
-    element-copy-out-u16-as-u64-2
+    shared-slice-read-u16-as-u64-2
     u16-as-u64-requires-2
     returns
     returns-2)
