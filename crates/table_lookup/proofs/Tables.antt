@@ -14,7 +14,7 @@ use Rattle.table.proofs.Shape.{count-shown}
 use Rattle.table.proofs.PassingRecord.{counts-pass, entry-is}
 use Rattle.table_lookup.specs.Places.{Rising, Named}
 
-named-rise : (numbers : List ℕ) (n : ℕ) (links : List VirtualLink) → Named numbers n links → LinksRise links → Rising numbers n
+pub named-rise : (numbers : List ℕ) (n : ℕ) (links : List VirtualLink) → Named numbers n links → LinksRise links → Rising numbers n
 named-rise numbers n links k rise i j l m =
     let c : length links ≡ n = k .count in
     rw (← k .number i (omega arith), ← k .number j m) (rise i j l (omega arith))
