@@ -7,7 +7,7 @@ use Prim.Native.Nat.{ℕ, _*_, _^_, _≤_, _<_, min}
 use native.Mathlib.Omega.{arith}
 use lib.ListN.{length, getD}
 use Rattle.model.specs.Link.{VirtualLink, bagOf, linkAt, placeOf}
-use Rattle.model.specs.Table.{Table, tableRefusal}
+use Rattle.model.specs.Table.{tableRefusal}
 use Rattle.model.specs.Report.{admits, admitted}
 use Rattle.model.proofs.Bags.{bag-capped}
 use Rattle.model.proofs.TableFacts.{CountsFit}

@@ -1,10 +1,10 @@
 -- The view of words, part by part.
-use mathlib.Core.Path.{_≡_, refl, ap, _∙_}
+use mathlib.Core.Path.{_≡_, refl, _∙_}
 use mathlib.Core.List.{List, [], _∷_}
 use Prim.Native.Nat.{ℕ, zero, suc, _+_, _*_, _≤_, _<_}
 use native.Mathlib.Omega.{arith}
 use lib.ListN.{length, getD}
-use Rattle.model.specs.Link.{VirtualLink, blankLink, linkAt}
+use Rattle.model.specs.Link.{blankLink, linkAt}
 use Rattle.model.specs.Table.{sizeOf}
 use Rattle.model.proofs.Lists.{getD-eight}
 use Rattle.model.proofs.Entries.{length-entries, getD-entries}

@@ -67,7 +67,7 @@ pub fn put_table(t: Table, words: &mut [u64])
 
 // Whether the link at i lets the frame through: it came on the link's line, within its lengths.
 fn admits(words: &[u64], i: usize, line: u64, length: u64) -> bool
-    requires { ⌜ 8 * i + 8 ≤ lib.ListN.length (now words) ⌝ }
+    requires { ⌜ (lib.ListN.length (now words) ≡ 2060) × (i < 256) ⌝ }
     ensures { λ r. ⌜ ((n : ℕ) → r ≡ admitsFrame (linkOf (now (words .entry)) i n) line «length») ⌝ }
 {
     let at = 8 * i;

@@ -4,113 +4,82 @@ use Rattle.flat_table.proofs.Laying.{link-put}
 use borrow.Author.Needs.{needs}
 use Rattle.flat_table.proofs.put_link.Statement.{statement}
 use Rattle.flat_table.proofs.put_link.Tie as tie
-use Rattle.flat_table.proofs.put_link.Reads as reads
-use Rattle.flat_table.proofs.put_link.Lts as lts
-use Rattle.numbers.proofs.u16_as_u64.Reads as u16-as-u64-reads
-use Rattle.numbers.proofs.u32_as_u64.Reads as u32-as-u64-reads
-use Rattle.numbers.proofs.u8_as_u64.Reads as u8-as-u64-reads
 
--- src/lib.rt:24:14
 mul-at : tie.Need-mul-at
 mul-at c = search needs
 
--- src/lib.rt:25:17
 u8-as-u64-requires : tie.Need-u8-as-u64-requires
 u8-as-u64-requires c κs = search needs
 
--- src/lib.rt:25:5
 mul-words : tie.Need-mul-words
 mul-words c = search needs
 
--- src/lib.rt:25:5
 slice-write-words : tie.Need-slice-write-words
 slice-write-words c = search needs
 
--- src/lib.rt:26:21
 u8-as-u64-requires-2 : tie.Need-u8-as-u64-requires-2
 u8-as-u64-requires-2 c κs = search needs
 
--- src/lib.rt:26:11
 add-words : tie.Need-add-words
 add-words c = search needs
 
--- src/lib.rt:26:5
 mul-words-2 : tie.Need-mul-words-2
 mul-words-2 c = search needs
 
--- src/lib.rt:26:5
 slice-write-words-2 : tie.Need-slice-write-words-2
 slice-write-words-2 c = simp length-set (omega arith)
 
--- src/lib.rt:27:21
 u8-as-u64-requires-3 : tie.Need-u8-as-u64-requires-3
 u8-as-u64-requires-3 c κs = search needs
 
--- src/lib.rt:27:11
 add-words-2 : tie.Need-add-words-2
 add-words-2 c = search needs
 
--- src/lib.rt:27:5
 mul-words-3 : tie.Need-mul-words-3
 mul-words-3 c = search needs
 
--- src/lib.rt:27:5
 slice-write-words-3 : tie.Need-slice-write-words-3
 slice-write-words-3 c = simp length-set (omega arith)
 
--- src/lib.rt:28:21
 u32-as-u64-requires : tie.Need-u32-as-u64-requires
 u32-as-u64-requires c κs = search needs
 
--- src/lib.rt:28:11
 add-words-3 : tie.Need-add-words-3
 add-words-3 c = search needs
 
--- src/lib.rt:28:5
 mul-words-4 : tie.Need-mul-words-4
 mul-words-4 c = search needs
 
--- src/lib.rt:28:5
 slice-write-words-4 : tie.Need-slice-write-words-4
 slice-write-words-4 c = simp length-set (omega arith)
 
--- src/lib.rt:29:21
 u16-as-u64-requires : tie.Need-u16-as-u64-requires
 u16-as-u64-requires c κs = search needs
 
--- src/lib.rt:29:11
 add-words-4 : tie.Need-add-words-4
 add-words-4 c = search needs
 
--- src/lib.rt:29:5
 mul-words-5 : tie.Need-mul-words-5
 mul-words-5 c = search needs
 
--- src/lib.rt:29:5
 slice-write-words-5 : tie.Need-slice-write-words-5
 slice-write-words-5 c = simp length-set (omega arith)
 
--- src/lib.rt:30:21
 u16-as-u64-requires-2 : tie.Need-u16-as-u64-requires-2
 u16-as-u64-requires-2 c κs = search needs
 
--- src/lib.rt:30:11
 add-words-5 : tie.Need-add-words-5
 add-words-5 c = search needs
 
--- src/lib.rt:30:5
 mul-words-6 : tie.Need-mul-words-6
 mul-words-6 c = search needs
 
--- src/lib.rt:30:5
 slice-write-words-6 : tie.Need-slice-write-words-6
 slice-write-words-6 c = simp length-set (omega arith)
 
--- src/lib.rt:20:1
 same-length : tie.Need-same-length
 same-length c = search needs
 
--- src/lib.rt:20:1
 returns : tie.Need-returns
 returns c =
     let start = c .before .before .before .before .before .before .before in

@@ -1,15 +1,11 @@
-use mathlib.Core.Path.{_≡_, refl, sym, _∙_}
+use mathlib.Core.Path.{_≡_, refl}
 use Prim.Native.Nat.{_-_, _≤_}
 use native.Mathlib.Omega.{arith}
-use lib.ListN.{length, length-set}
-use borrow.Author.Needs.{needs}
+use lib.ListN.{length}
 use Rattle.flat_table.specs.View.{LinksPut}
 use Rattle.flat_table.proofs.Laying.{links-more}
 use Rattle.flat_table.proofs.put_links.Statement.{statement}
 use Rattle.flat_table.proofs.put_links.Tie as tie
-use Rattle.flat_table.proofs.put_links.Reads as reads
-use Rattle.flat_table.proofs.put_links.Lts as lts
-use Rattle.flat_table.proofs.put_link.Reads as put-link-reads
 
 abbrev Inv-loop : tie.InvT-loop
 Inv-loop words₀ links i₀ words i = (i ≤ 256) × (length words ≡ length words₀) × LinksPut links i words
@@ -17,41 +13,32 @@ Inv-loop words₀ links i₀ words i = (i ≤ 256) × (length words ≡ length w
 abbrev μ-loop : tie.MeasureT-loop
 μ-loop words₀ links i₀ words i = 256 - i
 
--- src/lib.rt:38:5
 loop-holds : tie.Need-loop-holds Inv-loop μ-loop
 loop-holds c = (omega arith, refl, λ j h number. absurd (omega arith))
 
--- src/lib.rt:39:28
 mul-put-link : tie.Need-mul-put-link Inv-loop μ-loop
 mul-put-link c = omega arith
 
--- src/lib.rt:39:28
 array-copy-out-put-link : tie.Need-array-copy-out-put-link Inv-loop μ-loop
 array-copy-out-put-link c = omega arith
 
--- src/lib.rt:39:9
 put-link-requires : tie.Need-put-link-requires Inv-loop μ-loop
 put-link-requires c κs = (omega arith, omega arith)
 
--- src/lib.rt:40:9
 add-i : tie.Need-add-i Inv-loop μ-loop
 add-i c = omega arith
 
--- src/lib.rt:38:5
 loop-less : tie.Need-loop-less Inv-loop μ-loop
 loop-less c = omega arith
 
--- src/lib.rt:38:5
 loop-again : tie.Need-loop-again Inv-loop μ-loop
 loop-again c =
     let loop = c .before .before .before .before .before .before .loop in
     (omega arith, omega arith, links-more (c .before .before .before .before .before .before .before .before .args .t2) (loop .i) _ _ (loop .inv .2) (c .before .before .put-link .ensures))
 
--- src/lib.rt:33:1
 same-length : tie.Need-same-length Inv-loop μ-loop
 same-length c = c .before .loop .inv .1
 
--- src/lib.rt:33:1
 returns : tie.Need-returns Inv-loop μ-loop
 returns c = let e : c .before .loop .i ≡ 256 = omega arith in rw e at (c .before .loop .inv .2)
 

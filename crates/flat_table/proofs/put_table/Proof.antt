@@ -5,41 +5,28 @@ use Rattle.flat_table.proofs.Laying.{table-put}
 use borrow.Author.Needs.{needs}
 use Rattle.flat_table.proofs.put_table.Statement.{statement}
 use Rattle.flat_table.proofs.put_table.Tie as tie
-use Rattle.flat_table.proofs.put_table.Reads as reads
-use Rattle.flat_table.proofs.put_table.Lts as lts
-use Rattle.flat_table.proofs.put_links.Reads as put-links-reads
-use Rattle.flat_table.proofs.put_sizes.Reads as put-sizes-reads
-use Rattle.numbers.proofs.u16_as_u64.Reads as u16-as-u64-reads
 
--- src/lib.rt:61:5
 put-links-requires : tie.Need-put-links-requires
 put-links-requires c κs = search needs
 
--- src/lib.rt:63:5
 put-sizes-requires : tie.Need-put-sizes-requires
 put-sizes-requires c κs = search needs
 
--- src/lib.rt:64:19
 u16-as-u64-requires : tie.Need-u16-as-u64-requires
 u16-as-u64-requires c κs = search needs
 
--- src/lib.rt:64:5
 slice-write-words : tie.Need-slice-write-words
 slice-write-words c = search needs
 
--- src/lib.rt:65:19
 u16-as-u64-requires-2 : tie.Need-u16-as-u64-requires-2
 u16-as-u64-requires-2 c κs = search needs
 
--- src/lib.rt:65:5
 slice-write-words-2 : tie.Need-slice-write-words-2
 slice-write-words-2 c = simp length-set (omega arith)
 
--- src/lib.rt:56:1
 same-length : tie.Need-same-length
 same-length c = simp length-set (omega arith)
 
--- src/lib.rt:56:1
 returns : tie.Need-returns
 returns c =
     let start = c .before .before .before .before .before .before .before .before .before .before .before .before .before in
