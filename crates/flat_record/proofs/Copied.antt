@@ -1,12 +1,12 @@
 -- Accounts copied one by one, to two lists or from them.
-use mathlib.Core.Path.{_≡_, refl, sym, ap, _∙_}
+use mathlib.Core.Path.{_≡_, refl, sym, ap}
 use mathlib.Core.List.{List, [], _∷_, map}
 use Prim.Native.Nat.{ℕ, zero, suc, _+_, _≤_, _<_}
 use native.Mathlib.Decide.{ℕ-discrete}
 use native.Mathlib.Omega.{arith}
-use lib.ListN.{length, getD, set, length-set, length-map, List·getD-map}
+use lib.ListN.{length, getD, set, length-map, List·getD-map}
 use lib.Seq.{ext-getD, getD-set-same, getD-set-other}
-use Rattle.model.specs.Port.{Account, blankAccount, accountAt}
+use Rattle.model.specs.Port.{blankAccount, accountAt}
 use Rattle.port_policing.specs.declared.Account.{Account as AccountRecord}
 use Rattle.port_policing.specs.Check.{viewAccount}
 use Rattle.flat_record.specs.Accounts.{accountsOf}

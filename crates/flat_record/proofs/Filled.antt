@@ -1,21 +1,19 @@
 -- A queue pushed frame by frame into its ring, and the rings filled one by one.
-use mathlib.Core.Path.{_≡_, refl, sym, ap, _∙_}
-use mathlib.Core.Logic.{_≢_}
+use mathlib.Core.Path.{_≡_, sym, ap, _∙_}
 use mathlib.Core.List.{List, [], _∷_, _++_, map, map-append}
-use Prim.Native.Nat.{ℕ, zero, suc, _+_, _*_, _≤_, _<_}
+use Prim.Native.Nat.{ℕ, _+_, _≤_, _<_}
 use native.Mathlib.Numerals.{add-one}
 use native.Mathlib.Decide.{ℕ-discrete}
 use native.Mathlib.Omega.{arith}
 use lib.ListN.{length, getD, set, take, length-set, length-map, List·getD-map}
-use lib.Seq.{ext-getD, getD-set-same, getD-set-other, set-getD, set-set, take-suc, length-take-le}
+use lib.Seq.{ext-getD, getD-set-same, getD-set-other, set-set, take-suc, length-take-le}
 use Rattle.model.specs.Units.{mostFrames}
 use Rattle.model.specs.Machine.{Frame, queueOf, queuedLast, held as heldBytes}
 use Rattle.model.specs.Report.{arrived}
-use Rattle.port_scheduler.specs.declared.Frame.{Frame as FrameRecord}
 use Rattle.port_scheduler.specs.declared.Queue.{Queue}
 use Rattle.port_scheduler.specs.View.{viewFrame, blankEntry, blankQueue, viewQueue, viewQueues, viewMarks}
 use Rattle.port_scheduler.proofs.Shown.{entries-take, length-shown, queue-shown}
-use Rattle.flat_queues.specs.View.{ring, ringsFrom, ringsOf, Room}
+use Rattle.flat_queues.specs.View.{ring, ringsOf, Room}
 use Rattle.flat_queues.proofs.Rounds.{length-ring, length-rings, ring-at, one-set}
 use Rattle.flat_record.specs.Contracts.{RingLists, QueueFits, QueuePut, QueuesFit, QueuesPut}
 

@@ -1,15 +1,14 @@
 -- A ring read slot by slot into a queue, and the rings into queues.
-use mathlib.Core.Path.{_≡_, refl, sym, ap, _∙_}
-use mathlib.Core.List.{List, [], _∷_, map}
+use mathlib.Core.Path.{_≡_, ap, _∙_}
+use mathlib.Core.List.{List, []}
 use Prim.Native.Nat.{ℕ, zero, suc, _+_, _%_, _≤_, _<_}
 use native.Mathlib.Decide.{ℕ-discrete}
 use native.Mathlib.Omega.{arith}
-use lib.ListN.{length, getD, set, length-set, length-map, List·getD-map}
+use lib.ListN.{length, getD, set, length-map, List·getD-map}
 use lib.Seq.{ext-getD, getD-set-same, getD-set-other}
-use Rattle.model.specs.Basics.{Each, done, also, entries}
+use Rattle.model.specs.Basics.{Each, also, entries}
 use Rattle.model.proofs.Entries.{getD-entries}
-use Rattle.model.specs.Units.{mostFrames}
-use Rattle.model.specs.Machine.{Frame, blankFrame, queueOf}
+use Rattle.model.specs.Machine.{Frame, blankFrame}
 use Rattle.port_scheduler.specs.declared.Frame.{Frame as FrameRecord}
 use Rattle.port_scheduler.specs.declared.Queue.{Queue}
 use Rattle.port_scheduler.specs.View.{viewFrame, blankEntry, blankQueue, viewQueue, viewQueues, viewMarks}

@@ -58,15 +58,9 @@ fn put_queue(q: Queue, p: usize, frames: &mut [u64], heads: &[u64], counts: &mut
     let mut i: usize = 0;
     while i < n {
         let f = q.frames[i];
-        push(
-            frames,
-            heads,
-            counts,
-            p,
-            u16_as_u64(f.number),
-            u16_as_u64(f.length),
-            f.arrival,
-        );
+        let number = u16_as_u64(f.number);
+        let bytes = u16_as_u64(f.length);
+        push(frames, heads, counts, p, number, bytes, f.arrival);
         i += 1;
     }
 }

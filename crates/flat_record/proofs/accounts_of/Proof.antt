@@ -1,15 +1,12 @@
 -- The first i accounts are those of the lists.
-use mathlib.Core.Path.{_≡_, refl}
+use mathlib.Core.Path.{_≡_}
 use Prim.Native.Nat.{_-_, _≤_}
 use native.Mathlib.Omega.{arith}
 use borrow.Author.Needs.{needs}
 use lib.ListN.{length, length-set, length-replicate}
-use Rattle.flat_record.specs.Contracts.{AccountLists}
 use Rattle.flat_record.proofs.Copied.{Copied, blankRecord, one-read, all-read}
 use Rattle.flat_record.proofs.accounts_of.Statement.{statement}
 use Rattle.flat_record.proofs.accounts_of.Tie as tie
-use Rattle.flat_record.proofs.accounts_of.Reads as reads
-use Rattle.flat_record.proofs.accounts_of.Lts as lts
 
 abbrev Inv-loop : tie.InvT-loop
 Inv-loop credits since accounts₀ i₀ accounts i = (length accounts ≡ 256) × (i ≤ 256) × Copied accounts credits since i
@@ -17,43 +14,33 @@ Inv-loop credits since accounts₀ i₀ accounts i = (length accounts ≡ 256) �
 abbrev μ-loop : tie.MeasureT-loop
 μ-loop credits since accounts₀ i₀ accounts i = 256 - i
 
--- src/lib.rt:40:5
 loop-holds : tie.Need-loop-holds Inv-loop μ-loop
 loop-holds c = (length-replicate 256 blankRecord, omega arith, λ j h. absurd (omega arith))
 
--- src/lib.rt:42:21
 mul-t8 : tie.Need-mul-t8 Inv-loop μ-loop
 mul-t8 c = search needs
 
--- src/lib.rt:42:21
 shared-slice-read-t10 : tie.Need-shared-slice-read-t10 Inv-loop μ-loop
-shared-slice-read-t10 c = let n = c .before .before .before .pre .credits-room in omega arith
+shared-slice-read-t10 c = omega arith
 
--- src/lib.rt:43:19
 mul-t11 : tie.Need-mul-t11 Inv-loop μ-loop
 mul-t11 c = search needs
 
--- src/lib.rt:43:19
 shared-slice-read-t13 : tie.Need-shared-slice-read-t13 Inv-loop μ-loop
-shared-slice-read-t13 c = let n = c .before .before .before .before .pre .since-room in omega arith
+shared-slice-read-t13 c = omega arith
 
--- src/lib.rt:45:9
 mul-accounts : tie.Need-mul-accounts Inv-loop μ-loop
 mul-accounts c = search needs
 
--- src/lib.rt:45:9
 array-set-from-accounts : tie.Need-array-set-from-accounts Inv-loop μ-loop
 array-set-from-accounts c = search needs
 
--- src/lib.rt:46:9
 add-i : tie.Need-add-i Inv-loop μ-loop
 add-i c = search needs
 
--- src/lib.rt:40:5
 loop-less : tie.Need-loop-less Inv-loop μ-loop
 loop-less c = search needs
 
--- src/lib.rt:40:5
 loop-again : tie.Need-loop-again Inv-loop μ-loop
 loop-again c =
     let start = c .before .before .before .before in
@@ -63,7 +50,6 @@ loop-again c =
       one-read (loop .accounts) (start .args .credits .now) (start .args .since .now) (loop .i) (omega arith) (loop .inv .2),
     )
 
--- src/lib.rt:33:1
 returns : tie.Need-returns Inv-loop μ-loop
 returns c =
     let start = c .before .before in

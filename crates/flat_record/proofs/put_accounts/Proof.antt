@@ -1,15 +1,12 @@
 -- The first i accounts are in the lists.
-use mathlib.Core.Path.{_≡_, refl}
 use Prim.Native.Nat.{_-_, _≤_}
 use native.Mathlib.Omega.{arith}
 use borrow.Author.Needs.{needs}
-use lib.ListN.{length, length-set}
+use lib.ListN.{length-set}
 use Rattle.flat_record.specs.Contracts.{AccountLists}
 use Rattle.flat_record.proofs.Copied.{Copied, one-put, all-put}
 use Rattle.flat_record.proofs.put_accounts.Statement.{statement}
 use Rattle.flat_record.proofs.put_accounts.Tie as tie
-use Rattle.flat_record.proofs.put_accounts.Reads as reads
-use Rattle.flat_record.proofs.put_accounts.Lts as lts
 
 abbrev Inv-loop : tie.InvT-loop
 Inv-loop credits₀ since₀ accounts i₀ credits since i = AccountLists credits since × (i ≤ 256) × Copied accounts credits since i
@@ -17,71 +14,54 @@ Inv-loop credits₀ since₀ accounts i₀ credits since i = AccountLists credit
 abbrev μ-loop : tie.MeasureT-loop
 μ-loop credits₀ since₀ accounts i₀ credits since i = 256 - i
 
--- src/lib.rt:25:5
 loop-holds : tie.Need-loop-holds Inv-loop μ-loop
 loop-holds c = (c .pre, omega arith, λ j h. absurd (omega arith))
 
--- src/lib.rt:26:22
 mul-credits : tie.Need-mul-credits Inv-loop μ-loop
 mul-credits c = search needs
 
--- src/lib.rt:26:22
 element-copy-out-credits : tie.Need-element-copy-out-credits Inv-loop μ-loop
 element-copy-out-credits c = search needs
 
--- src/lib.rt:26:9
 mul-credits-2 : tie.Need-mul-credits-2 Inv-loop μ-loop
 mul-credits-2 c = search needs
 
--- src/lib.rt:26:9
 slice-write-credits : tie.Need-slice-write-credits Inv-loop μ-loop
-slice-write-credits c = let n = c .before .loop .inv .0 .credits-room in omega arith
+slice-write-credits c = omega arith
 
--- src/lib.rt:27:20
 mul-since : tie.Need-mul-since Inv-loop μ-loop
 mul-since c = search needs
 
--- src/lib.rt:27:20
 element-copy-out-since : tie.Need-element-copy-out-since Inv-loop μ-loop
 element-copy-out-since c = search needs
 
--- src/lib.rt:27:9
 mul-since-2 : tie.Need-mul-since-2 Inv-loop μ-loop
 mul-since-2 c = search needs
 
--- src/lib.rt:27:9
 slice-write-since : tie.Need-slice-write-since Inv-loop μ-loop
-slice-write-since c = let n = c .before .loop .inv .0 .since-room in omega arith
+slice-write-since c = omega arith
 
--- src/lib.rt:28:9
 add-i : tie.Need-add-i Inv-loop μ-loop
 add-i c = search needs
 
--- src/lib.rt:25:5
 loop-less : tie.Need-loop-less Inv-loop μ-loop
 loop-less c = search needs
 
--- src/lib.rt:25:5
 loop-again : tie.Need-loop-again Inv-loop μ-loop
 loop-again c =
     let start = c .before .before in
-    let loop = c .before .loop in
-    let n = loop .inv .0 .credits-room in
-    let m = loop .inv .0 .since-room in (
-      record { credits-room = rw length-set n; since-room = rw length-set m },
+    let loop = c .before .loop in (
+      record { credits-room = rw length-set (loop .inv .0 .credits-room); since-room = rw length-set (loop .inv .0 .since-room) },
       omega arith,
       one-put (start .args .t1) (loop .credits) (loop .since) (loop .i) (omega arith) (omega arith) (loop .inv .2),
     )
 
--- src/lib.rt:20:1
 same-length : tie.Need-same-length Inv-loop μ-loop
-same-length c = let n = c .before .loop .inv .0 .credits-room in let m = c .before .before .pre .credits-room in omega arith
+same-length c = omega arith
 
--- src/lib.rt:20:1
 same-length-2 : tie.Need-same-length-2 Inv-loop μ-loop
-same-length-2 c = let n = c .before .loop .inv .0 .since-room in let m = c .before .before .pre .since-room in omega arith
+same-length-2 c = omega arith
 
--- src/lib.rt:20:1
 returns : tie.Need-returns Inv-loop μ-loop
 returns c =
     let start = c .before .before in

@@ -3,15 +3,11 @@ use mathlib.Core.Path.{_≡_, refl}
 use Prim.Native.Nat.{_-_, _≤_}
 use native.Mathlib.Omega.{arith}
 use borrow.Author.Needs.{needs}
-use lib.ListN.{length, length-set}
+use lib.ListN.{length-set}
 use Rattle.port_scheduler.proofs.Shape.{queue-whole}
 use Rattle.flat_record.proofs.Filled.{Filling, none-filled, room-left, one-filled, all-filled}
 use Rattle.flat_record.proofs.put_queue.Statement.{statement}
 use Rattle.flat_record.proofs.put_queue.Tie as tie
-use Rattle.flat_record.proofs.put_queue.Reads as reads
-use Rattle.flat_record.proofs.put_queue.Lts as lts
-use Rattle.flat_queues.proofs.push.Reads as push-reads
-use Rattle.numbers.proofs.u16_as_u64.Reads as u16-as-u64-reads
 
 abbrev Inv-loop : tie.InvT-loop
 Inv-loop p frames₀ heads counts₀ q n i₀ frames counts i = (i ≤ n) × (n ≡ q .count) × Filling q p heads frames₀ counts₀ frames counts i
@@ -19,89 +15,76 @@ Inv-loop p frames₀ heads counts₀ q n i₀ frames counts i = (i ≤ n) × (n 
 abbrev μ-loop : tie.MeasureT-loop
 μ-loop p frames₀ heads counts₀ q n i₀ frames counts i = n - i
 
--- src/lib.rt:56:5
 mul-counts : tie.Need-mul-counts Inv-loop μ-loop
 mul-counts c = search needs
 
--- src/lib.rt:56:5
 slice-write-counts : tie.Need-slice-write-counts Inv-loop μ-loop
-slice-write-counts c = let n = c .before .before .before .pre .lists .counts-room in let h = c .before .before .before .pre .eight in omega arith
+slice-write-counts c = omega arith
 
--- src/lib.rt:57:13
 cast-n : tie.Need-cast-n Inv-loop μ-loop
 cast-n c = search needs
 
--- src/lib.rt:59:5
 loop-holds : tie.Need-loop-holds Inv-loop μ-loop
 loop-holds c =
     let start = c .before .before .before in
     (omega arith, refl, none-filled (start .args .t1) (start .args .p) (start .args .heads .now) (start .args .frames .now) (start .args .counts .now) (start .pre))
 
--- src/lib.rt:60:17
 mul-f : tie.Need-mul-f Inv-loop μ-loop
 mul-f c = search needs
 
--- src/lib.rt:60:17
 element-copy-out-f : tie.Need-element-copy-out-f Inv-loop μ-loop
-element-copy-out-f c = let w = queue-whole (c .before .before .before .before .before .args .t1) _ (c .before .before .before .before .before .good .0) in let few = c .before .before .before .before .before .pre .few in omega arith
+element-copy-out-f c =
+    let start = c .before .before .before .before .before in
+    let w = queue-whole (start .args .t1) _ (start .good .0) in
+    omega arith
 
--- src/lib.rt:66:13
 u16-as-u64-requires : tie.Need-u16-as-u64-requires Inv-loop μ-loop
 u16-as-u64-requires c κs = search needs
 
--- src/lib.rt:67:13
 u16-as-u64-requires-2 : tie.Need-u16-as-u64-requires-2 Inv-loop μ-loop
 u16-as-u64-requires-2 c κs = search needs
 
--- src/lib.rt:61:9
 push-requires : tie.Need-push-requires Inv-loop μ-loop
 push-requires c κs =
     let start = c .before .before .before .before .before .before .before .before .before .before in
     let loop = c .before .before .before .before .before .before .loop in
     let w = queue-whole (start .args .t1) _ (start .good .0) in
-    let few = start .pre .few in
-    room-left (start .args .t1) (start .args .p) (start .args .heads .now) _ _ (loop .frames) (loop .counts) (loop .i) (start .pre .heads-room) (start .pre .eight) (rw length-set (start .pre .lists .counts-room)) w (omega arith) (loop .inv .2)
+    room-left (start .args .t1) (start .args .p) (start .args .heads .now) _ _ (loop .frames) (loop .counts) (loop .i)
+    (start .pre .heads-room) (start .pre .eight) (rw length-set (start .pre .lists .counts-room)) w (omega arith) (loop .inv .2)
 
--- src/lib.rt:70:9
 add-i : tie.Need-add-i Inv-loop μ-loop
 add-i c = search needs
 
--- src/lib.rt:59:5
 loop-less : tie.Need-loop-less Inv-loop μ-loop
 loop-less c = search needs
 
--- src/lib.rt:59:5
 loop-again : tie.Need-loop-again Inv-loop μ-loop
 loop-again c =
     let start = c .before .before .before .before .before .before .before .before .before .before .before .before .before .before .before in
     let loop = c .before .before .before .before .before .before .before .before .before .before .before .loop in
     let push = c .before .before .before .before .push in
     let w = queue-whole (start .args .t1) _ (start .good .0) in
-    let few = start .pre .few in
-    let h = start .pre .eight in
-    let n = start .pre .lists .counts-room in
-    let f = loop .inv .2 .lists .frames-room in
-    let g = loop .inv .2 .lists .counts-room in
-    (omega arith, refl, one-filled (start .args .t1) (start .args .p) (start .args .heads .now) _ _ (loop .frames) (loop .counts) (loop .i) (rw length-set (omega arith)) (omega arith) (loop .inv .2) (c .before .before .before .before .before .before .u16-as-u64 .ensures .0) (c .before .before .before .before .before .u16-as-u642 .ensures .0) (push .ensures) (omega arith) (omega arith))
+    let number = c .before .before .before .before .before .before .before .before .u16-as-u64 .ensures .0 in
+    let bytes = c .before .before .before .before .before .before .before .u16-as-u642 .ensures .0 in (
+      omega arith,
+      refl,
+      one-filled (start .args .t1) (start .args .p) (start .args .heads .now) _ _ (loop .frames) (loop .counts) (loop .i)
+          (rw length-set (omega arith)) (omega arith) (loop .inv .2) number bytes (push .ensures) (omega arith) (omega arith),
+    )
 
--- src/lib.rt:52:1
 same-length : tie.Need-same-length Inv-loop μ-loop
-same-length c = let n = c .before .loop .inv .2 .lists .frames-room in let m = c .before .before .before .before .before .pre .lists .frames-room in omega arith
+same-length c = omega arith
 
--- src/lib.rt:52:1
 same-length-2 : tie.Need-same-length-2 Inv-loop μ-loop
-same-length-2 c = let n = c .before .loop .inv .2 .lists .counts-room in let m = c .before .before .before .before .before .pre .lists .counts-room in omega arith
+same-length-2 c = omega arith
 
--- src/lib.rt:52:1
 returns : tie.Need-returns Inv-loop μ-loop
 returns c =
     let start = c .before .before .before .before .before in
     let loop = c .before .loop in
     let w = queue-whole (start .args .t1) _ (start .good .0) in
-    let few = start .pre .few in
-    let h = start .pre .eight in
-    let n = start .pre .lists .counts-room in
-    all-filled (start .args .t1) (start .args .p) (start .args .heads .now) (start .args .frames .now) (start .args .counts .now) (loop .frames) (loop .counts) (loop .i) (omega arith) (omega arith) (omega arith) (loop .inv .2)
+    all-filled (start .args .t1) (start .args .p) (start .args .heads .now) (start .args .frames .now) (start .args .counts .now) (loop .frames) (loop .counts) (loop .i)
+    (omega arith) (omega arith) (omega arith) (loop .inv .2)
 
 pub put-queue-spec : {M : Type 1} → statement M
 put-queue-spec =

@@ -9,10 +9,6 @@ use Rattle.port_scheduler.specs.View.{blankEntry}
 use Rattle.flat_record.proofs.Reading.{Taken, narrow-there, one-taken, ring-read}
 use Rattle.flat_record.proofs.queue_of.Statement.{statement}
 use Rattle.flat_record.proofs.queue_of.Tie as tie
-use Rattle.flat_record.proofs.queue_of.Reads as reads
-use Rattle.flat_record.proofs.queue_of.Lts as lts
-use Rattle.flat_queues.proofs.slot.Reads as slot-reads
-use Rattle.flat_record.proofs.frame_of.Reads as frame-of-reads
 
 abbrev Inv-loop : tie.InvT-loop
 Inv-loop frames p head count mark q₀ n i₀ q i = (i ≤ n) × (n ≡ count) × (q .count ≡ count) × (q .mark ≡ mark) × (length (q .frames) ≡ mostFrames) × Taken (q .frames) frames p head i
@@ -20,61 +16,46 @@ Inv-loop frames p head count mark q₀ n i₀ q i = (i ≤ n) × (n ≡ count) �
 abbrev μ-loop : tie.MeasureT-loop
 μ-loop frames p head count mark q₀ n i₀ q i = n - i
 
--- src/lib.rt:119:16
 cast-t11 : tie.Need-cast-t11 Inv-loop μ-loop
-cast-t11 c = let few = c .before .pre .few in omega arith
+cast-t11 c = omega arith
 
--- src/lib.rt:120:15
 cast-t12 : tie.Need-cast-t12 Inv-loop μ-loop
-cast-t12 c = let low = c .before .pre .low in omega arith
+cast-t12 c = omega arith
 
--- src/lib.rt:125:5
 loop-holds : tie.Need-loop-holds Inv-loop μ-loop
 loop-holds c = (omega arith, refl, refl, refl, length-replicate 256 blankEntry, λ j h. absurd (omega arith))
 
--- src/lib.rt:126:42
 add-slot : tie.Need-add-slot Inv-loop μ-loop
-add-slot c = let few = c .before .before .before .pre .few in omega arith
+add-slot c = omega arith
 
--- src/lib.rt:126:34
 slot-requires : tie.Need-slot-requires Inv-loop μ-loop
-slot-requires c κs = let h = c .before .before .before .pre .eight in omega arith
+slot-requires c κs = omega arith
 
--- src/lib.rt:126:13
 frame-of-requires : tie.Need-frame-of-requires Inv-loop μ-loop
 frame-of-requires c κs =
     let start = c .before .before .before .before in
     let loop = c .before .before .loop in
-    let room = start .pre .frames-room in
-    let h = start .pre .eight in
     rw (c .slot .ensures) (omega arith, narrow-there (start .pre) (loop .i) (omega arith))
 
--- src/lib.rt:127:9
 mul-f : tie.Need-mul-f Inv-loop μ-loop
 mul-f c = search needs
 
--- src/lib.rt:127:9
 element-set-from-f : tie.Need-element-set-from-f Inv-loop μ-loop
-element-set-from-f c = let few = c .before .before .before .before .before .pre .few in omega arith
+element-set-from-f c = omega arith
 
--- src/lib.rt:128:9
 add-i : tie.Need-add-i Inv-loop μ-loop
 add-i c = search needs
 
--- src/lib.rt:125:5
 loop-less : tie.Need-loop-less Inv-loop μ-loop
 loop-less c = search needs
 
--- src/lib.rt:125:5
 loop-again : tie.Need-loop-again Inv-loop μ-loop
 loop-again c =
     let start = c .before .before .before .before .before in
     let loop = c .before .before .before .loop in
-    let few = start .pre .few in
     let there = rw (c .before .slot .ensures) at (c .frame-of .ensures) in
     (omega arith, refl, loop .inv .2, loop .inv .3, rw length-set (loop .inv .4), one-taken (loop .q .frames) (start .pre) (omega arith) there (loop .inv .5))
 
--- src/lib.rt:109:1
 returns : tie.Need-returns Inv-loop μ-loop
 returns c =
     let start = c .before .before .before in

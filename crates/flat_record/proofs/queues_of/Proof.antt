@@ -7,9 +7,6 @@ use lib.ListN.{length, length-set}
 use Rattle.flat_record.proofs.Reading.{Kept, ring-fits, one-kept, all-kept}
 use Rattle.flat_record.proofs.queues_of.Statement.{statement}
 use Rattle.flat_record.proofs.queues_of.Tie as tie
-use Rattle.flat_record.proofs.queues_of.Reads as reads
-use Rattle.flat_record.proofs.queues_of.Lts as lts
-use Rattle.flat_record.proofs.queue_of.Reads as queue-of-reads
 
 abbrev Inv-loop : tie.InvT-loop
 Inv-loop frames heads counts marks queues₀ i₀ queues i = (length queues ≡ 8) × (i ≤ 8) × Kept queues frames heads counts marks i
@@ -17,62 +14,48 @@ Inv-loop frames heads counts marks queues₀ i₀ queues i = (length queues ≡ 
 abbrev μ-loop : tie.MeasureT-loop
 μ-loop frames heads counts marks queues₀ i₀ queues i = 8 - i
 
--- src/lib.rt:150:5
 loop-holds : tie.Need-loop-holds Inv-loop μ-loop
 loop-holds c = (refl, omega arith, λ p h. absurd (omega arith))
 
--- src/lib.rt:151:37
 mul-queue-of : tie.Need-mul-queue-of Inv-loop μ-loop
 mul-queue-of c = search needs
 
--- src/lib.rt:151:37
 shared-slice-read-queue-of : tie.Need-shared-slice-read-queue-of Inv-loop μ-loop
-shared-slice-read-queue-of c = let n = c .before .before .before .before .before .before .before .pre .heads-room in omega arith
+shared-slice-read-queue-of c = omega arith
 
--- src/lib.rt:151:47
 mul-queue-of-2 : tie.Need-mul-queue-of-2 Inv-loop μ-loop
 mul-queue-of-2 c = search needs
 
--- src/lib.rt:151:47
 shared-slice-read-queue-of-2 : tie.Need-shared-slice-read-queue-of-2 Inv-loop μ-loop
-shared-slice-read-queue-of-2 c = let n = c .before .before .before .before .before .before .before .before .pre .lists .counts-room in omega arith
+shared-slice-read-queue-of-2 c = omega arith
 
--- src/lib.rt:151:58
 mul-queue-of-3 : tie.Need-mul-queue-of-3 Inv-loop μ-loop
 mul-queue-of-3 c = search needs
 
--- src/lib.rt:151:58
 shared-slice-read-queue-of-3 : tie.Need-shared-slice-read-queue-of-3 Inv-loop μ-loop
-shared-slice-read-queue-of-3 c = let n = c .before .before .before .before .before .before .before .before .before .pre .marks-room in omega arith
+shared-slice-read-queue-of-3 c = omega arith
 
--- src/lib.rt:151:13
 queue-of-requires : tie.Need-queue-of-requires Inv-loop μ-loop
 queue-of-requires c κs = ring-fits (c .before .before .before .before .before .before .before .before .before .pre) (c .before .before .before .before .loop .i) (omega arith)
 
--- src/lib.rt:152:9
 mul-queues : tie.Need-mul-queues Inv-loop μ-loop
 mul-queues c = search needs
 
--- src/lib.rt:152:9
 array-set-from-queues : tie.Need-array-set-from-queues Inv-loop μ-loop
 array-set-from-queues c = search needs
 
--- src/lib.rt:153:9
 add-i : tie.Need-add-i Inv-loop μ-loop
 add-i c = search needs
 
--- src/lib.rt:150:5
 loop-less : tie.Need-loop-less Inv-loop μ-loop
 loop-less c = search needs
 
--- src/lib.rt:150:5
 loop-again : tie.Need-loop-again Inv-loop μ-loop
 loop-again c =
     let start = c .before .before .before .before .before .before .before .before .before .before in
     let loop = c .before .before .before .before .before .loop in
     (rw length-set (loop .inv .0), omega arith, one-kept (loop .queues) (start .pre) (omega arith) (c .queue-of .ensures) (loop .inv .2))
 
--- src/lib.rt:134:1
 returns : tie.Need-returns Inv-loop μ-loop
 returns c =
     let start = c .before .before .before .before .before .before in
