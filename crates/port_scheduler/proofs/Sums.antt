@@ -4,10 +4,10 @@ use mathlib.Core.List.{List, [], _∷_, _++_, map, map-append}
 use Prim.Native.Nat.{ℕ, zero, suc, _+_, _*_, _≤_, _<_}
 use native.Mathlib.Numerals.{add-one}
 use native.Mathlib.Omega.{arith}
-use lib.ListN.{length, getD, take}
+use lib.ListN.{length, getD, take, length-append}
 use lib.Seq.{take-suc, take-all}
 use Rattle.model.specs.Units.{occupied}
-use Rattle.model.specs.Machine.{Frame, queueOf, withoutHead, bytes, held, framesHeld}
+use Rattle.model.specs.Machine.{Frame, queueOf, queuedLast, withoutHead, bytes, held, framesHeld}
 use Rattle.model.proofs.Queues.{bytes-snoc}
 use Rattle.port_scheduler.specs.declared.Frame.{Frame as FrameRecord}
 use Rattle.port_scheduler.specs.declared.Queue.{Queue}
@@ -49,7 +49,13 @@ frames-more qs i h =
 pub frames-all : (qs : List Queue) (i : ℕ) → length qs ≤ i → framesHeld (take i (viewQueues qs)) ≡ framesHeld (viewQueues qs)
 frames-all qs i h = rw (take-all i (viewQueues qs) (rw length-shown h))
 
--- ---- one frame less
+-- ---- one frame more, one frame less
+pub frames-last : (qs : List (List Frame)) (p : ℕ) (f : Frame) → p < length qs → framesHeld (queuedLast qs p f) ≡ framesHeld qs + 1
+unfolding framesHeld
+frames-last [] p f h = absurd (omega arith)
+frames-last (q ∷ qs) zero f h = omega (arith, length-append q (f ∷ []))
+frames-last (q ∷ qs) (suc p) f h = omega (arith, frames-last qs p f (omega arith))
+
 pub frames-gone : (qs : List (List Frame)) (p : ℕ) → 0 < length (queueOf qs p) → framesHeld (withoutHead qs p) + 1 ≡ framesHeld qs
 unfolding framesHeld
 frames-gone [] p h = absurd (omega arith)
