@@ -5,7 +5,7 @@ use mathlib.Core.List.{List, _∷_, _++_}
 use Prim.Native.Nat.{ℕ, _+_, _-_, _*_, _≤_, _<_}
 use lib.ListN.{length, getD, set, take, drop}
 use Rattle.model.specs.Basics.{Each}
-use Rattle.model.specs.Units.{occupied, mostFrames}
+use Rattle.model.specs.Units.{lastTick, occupied, mostFrames}
 use Rattle.model.specs.Machine.{Frame, Sender, Advance, queueOf, withoutHead, held as heldBytes, framesHeld}
 use Rattle.model.specs.Fitness.{senderFit}
 use Rattle.model.specs.Report.{listed}
@@ -42,6 +42,7 @@ pub record Ready (queues : List (List Frame)) (s : Sender) (clock time len : ℕ
   pub positive : (p : ℕ) → p < 8 → Each (λ (f : Frame). 0 < f .length) (queueOf queues p)
   pub sender : senderFit clock queues s ≡ true
   pub later : clock ≤ time
+  pub early : time ≤ lastTick
   pub room : 3 * framesHeld queues ≤ len
 
 -- what is left, what was freed and the whole list are the tick machine's; no frame is lost

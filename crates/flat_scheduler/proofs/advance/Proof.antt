@@ -90,7 +90,7 @@ sub-if1 : tie.Need-sub-if1 Inv-loop μ-loop
 sub-if1 c = let o = on (c .before .before .before) in omega (arith, c .before .before .before .before .before .before .before .before .loop .inv .0 .later)
 
 add-end : tie.Need-add-end Inv-loop μ-loop
-add-end c = let o = on (c .before .before .before .before) in omega (arith, c .before .before .before .before .before .before .before .before .before .loop .inv .0 .later)
+add-end c = let o = on (c .before .before .before .before) in omega (arith, c .before .before .before .before .before .before .before .before .before .loop .inv .0 .later, c .before .before .before .before .before .before .before .before .before .before .before .before .before .before .before .pre .1 .early)
 
 mul-depart : tie.Need-mul-depart Inv-loop μ-loop
 mul-depart c = omega (arith, few-gone (c .before .before .before .before .before .before .before .before .before .before .before .before .before .loop .inv .0))
