@@ -9,6 +9,12 @@ use Rattle.port_policing.specs.declared.Checked.{Checked as CheckedRecord}
 use Rattle.port_policing.specs.Check.{checkBy}
 use Rattle.flat_policing.specs.Accounts.{accountsOf, Charges}
 
+pub length-accounts : (credits since : List ℕ) → length since ≡ length credits → length (accountsOf credits since) ≡ length credits
+unfolding accountsOf
+length-accounts [] since e = refl
+length-accounts (x ∷ credits) [] e = absurd (omega arith)
+length-accounts (x ∷ credits) (y ∷ since) e = ap suc (length-accounts credits since (omega arith))
+
 pub account-set : (credits since : List ℕ) (i c t : ℕ) → accountsOf (set credits i c) (set since i t) ≡ set (accountsOf credits since) i (record { credit = c; tick = t })
 unfolding accountsOf
 account-set [] since i c t = refl

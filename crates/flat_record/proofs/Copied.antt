@@ -9,21 +9,9 @@ use lib.Seq.{ext-getD, getD-set-same, getD-set-other}
 use Rattle.model.specs.Port.{blankAccount, accountAt}
 use Rattle.port_policing.specs.declared.Account.{Account as AccountRecord}
 use Rattle.port_policing.specs.Check.{viewAccount}
-use Rattle.flat_record.specs.Accounts.{accountsOf}
+use Rattle.flat_policing.specs.Accounts.{accountsOf}
+use Rattle.flat_policing.proofs.Flat.{account-read, length-accounts}
 use Rattle.flat_record.specs.Contracts.{AccountLists, AccountsPut, AccountsRead}
-
-account-read : (credits since : List ℕ) (i : ℕ) → i < length credits → i < length since → accountAt (accountsOf credits since) i ≡ record { credit = getD credits i 0; tick = getD since i 0 }
-unfolding accountsOf
-account-read [] since i h k = absurd (omega arith)
-account-read (x ∷ credits) [] i h k = absurd (omega arith)
-account-read (x ∷ credits) (y ∷ since) zero h k = refl
-account-read (x ∷ credits) (y ∷ since) (suc i) h k = account-read credits since i (omega arith) (omega arith)
-
-length-accounts : (credits since : List ℕ) → length since ≡ length credits → length (accountsOf credits since) ≡ length credits
-unfolding accountsOf
-length-accounts [] since e = refl
-length-accounts (x ∷ credits) [] e = absurd (omega arith)
-length-accounts (x ∷ credits) (y ∷ since) e = ap suc (length-accounts credits since (omega arith))
 
 abbrev pub blankRecord : AccountRecord
 blankRecord = record { credit = 0; tick = 0 }

@@ -11,7 +11,7 @@ use Rattle.port_policing.specs.Check.{viewAccount}
 use Rattle.port_scheduler.specs.declared.Queue.{Queue}
 use Rattle.port_scheduler.specs.View.{blankQueue, viewQueue, viewQueues, viewMarks}
 use Rattle.flat_queues.specs.View.{ring, ringsOf}
-use Rattle.flat_record.specs.Accounts.{accountsOf}
+use Rattle.flat_policing.specs.Accounts.{accountsOf}
 
 -- ---- accounts
 pub record AccountLists (credits since : List ℕ) : Type 0 where

@@ -20,7 +20,7 @@ pub fn settle(
     number: u64,
     length: u64,
     time: u64,
-) -> u64
+) -> u32
     requires { ⌜ Roomy (now frames) (now heads) (now counts) (now held) (now marks) p size length ⌝ }
     ensures { λ r. ⌜ ((t : Table) (s : Port) → Shown t s p size (ringsOf (now (frames .entry)) (now (heads .entry)) (now (counts .entry))) (now (marks .entry)) → Settles t s p (arrived number length time) r (ringsOf (now (frames .exit)) (now (heads .entry)) (now (counts .exit))) (now (marks .exit))) × Holds (now (held .exit)) (ringsOf (now (frames .exit)) (now (heads .entry)) (now (counts .exit))) × Kept (now (frames .entry)) (now (heads .entry)) (now (counts .entry)) (now (held .entry)) (now (marks .entry)) r (now (frames .exit)) (now (counts .exit)) (now (held .exit)) (now (marks .exit)) ⌝ }
 {
