@@ -1,6 +1,5 @@
 // Internal to the product: a frame that passed the police check, stored in a ring in lent flat lists or dropped.
 use numbers::larger;
-ghost use mathlib.Core.Path.{_≡_};
 ghost use Rattle.model.specs.Table.{Table};
 ghost use Rattle.model.specs.Port.{Port};
 ghost use Rattle.model.specs.Report.{arrived};

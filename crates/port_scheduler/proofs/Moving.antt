@@ -5,7 +5,7 @@ use Prim.Native.Nat.{ℕ, _+_, _*_, _≤_, _<_}
 use native.Mathlib.Omega.{arith}
 use lib.ListN.{length, getD, take, drop, set}
 use Rattle.model.specs.Units.{lastTick, occupied}
-use Rattle.model.specs.Machine.{Sender, idle, sending, Advance, at, advanced, headOf, framesHeld}
+use Rattle.model.specs.Machine.{Advance, at, advanced, headOf, framesHeld}
 use Rattle.model.specs.Report.{bytesFreed}
 use Rattle.port_scheduler.specs.declared.Queue.{Queue}
 use Rattle.port_scheduler.specs.declared.Sender.{Sender as SenderRecord}

@@ -1,5 +1,5 @@
 -- The three cases: a frame is under way, time is up, or whoever waits starts.
-use mathlib.Core.Path.{ap, _∙_}
+use mathlib.Core.Path.{ap}
 use native.Mathlib.Omega.{arith}
 use Rattle.port_scheduler.specs.View.{viewSender}
 use Rattle.port_scheduler.proofs.Starts.{stays, time-over, starts}

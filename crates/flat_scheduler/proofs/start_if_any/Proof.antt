@@ -1,8 +1,8 @@
 -- No ring before i holds a frame.
 use mathlib.Core.Path.{_≡_}
-use Prim.Native.Nat.{ℕ, _+_, _-_, _≤_, _<_}
+use Prim.Native.Nat.{ℕ, _-_, _≤_, _<_}
 use native.Mathlib.Omega.{arith}
-use lib.ListN.{length, getD}
+use lib.ListN.{getD}
 use Rattle.flat_scheduler.proofs.Rings.{starts-here, starts-none, none-more}
 use borrow.Author.Needs.{needs}
 use Rattle.flat_scheduler.proofs.start_if_any.Statement.{statement}
