@@ -24,6 +24,20 @@ use Rattle.flat_storing.specs.Storing.{Roomy, Shown, Settles, withQueues, Kept}
 use Rattle.flat_port.specs.Lists.{Lists, lists, queuesIn, viewLists, Sized}
 use Rattle.flat_port.specs.Contracts.{Arrived, storedBy, Gives}
 
+pub is-stored : {n : ℕ} → n ≡ 0 → 1 ≡ storedBy n
+unfolding storedBy
+is-stored e = rw e
+
+pub is-not-stored : (n : ℕ) → (n ≡ 0 → ⊥) → 0 ≡ storedBy n
+unfolding storedBy
+is-not-stored zero z = absurd (z refl)
+is-not-stored (suc n) z = refl
+
+pub stored-most : (n : ℕ) → storedBy n ≤ 1
+unfolding storedBy
+stored-most zero = omega arith
+stored-most (suc n) = omega arith
+
 -- the line's tick is set
 abbrev pub tickedLists : Lists → ℕ → ℕ → Lists
 tickedLists l line time = lists (l .frames) (l .heads) (l .counts) (l .held) (l .marks) (set (l .ticks) line time) (l .credits) (l .since)
@@ -76,6 +90,9 @@ module _ {t : Table} {l : Lists} {line len : ℕ} (k : Arrived t l line len) (nu
     few : i < 256
     few = omega (arith, passing .counts .links-most)
 
+    pub priority-few : {p : ℕ} → p ≡ v .priority → p < 8
+    priority-few pe = omega (arith, pe, passing .fields i below .priority-most)
+
     module _ {passed : Bool} {credits since : List ℕ} (c : Charges (bag v) (v .jitter) (l .credits) (l .since) i time passed credits since) where
       abbrev l₂ : Lists
       l₂ = chargedLists l line time credits since
@@ -125,11 +142,8 @@ module _ {t : Table} {l : Lists} {line len : ℕ} (k : Arrived t l line len) (nu
             }
 
         module _ (q : passed ≡ true) {p size : ℕ} (pe : p ≡ v .priority) (se : size ≡ sizeOf t p) where
-          pub priority-few : p < 8
-          priority-few = omega (arith, pe, passing .fields i below .priority-most)
-
           pub roomy : Roomy (l .frames) (l .heads) (l .counts) (l .held) (l .marks) p size len
-          roomy = record { ring = priority-few; flat = k .sized .flat; marks-are = k .sized .marks; holds = k .sized .holds; free = λ h. k .room p priority-few (omega arith) }
+          roomy = record { ring = priority-few pe; flat = k .sized .flat; marks-are = k .sized .marks; holds = k .sized .holds; free = λ h. k .room p (priority-few pe) (omega arith) }
 
           pub is-settled : {verdict : ℕ} {frames counts held marks : List ℕ} →
               ((t' : Table) (s : Port) → Shown t' s p size (queuesIn l) (l .marks) → Settles t' s p f verdict (ringsOf frames (l .heads) counts) marks) →

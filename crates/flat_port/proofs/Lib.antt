@@ -1,3 +1,5 @@
 pub mod Standing
 pub mod Judged
+pub mod Verdicts
 pub mod Reporting
+pub mod Answering

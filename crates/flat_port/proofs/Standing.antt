@@ -19,6 +19,8 @@ use Rattle.model.proofs.Refusals.{refusal-fit}
 use Rattle.model.proofs.Lined.{lined-count}
 use Rattle.model.proofs.Fitness.{FitPort, fit-is}
 use Rattle.port_scheduler.specs.View.{viewSender}
+use Rattle.port_scheduler.proofs.Sums.{frames-few}
+use Rattle.port_scheduler.proofs.Progress.{everywhere}
 use Rattle.port_refusals.specs.Reports.{Clocked}
 use Rattle.flat_queues.specs.View.{ringsOf}
 use Rattle.flat_queues.proofs.Rounds.{length-rings}
@@ -31,6 +33,16 @@ use Rattle.flat_port.specs.Lists.{Lists, queuesIn, viewLists, viewState,
 pub eight-queues : {l : Lists} → Sized l → length (queuesIn l) ≡ 8
 eight-queues {l} z = length-rings (l .frames) (l .heads) 0 (l .counts) ∙ z .flat .counts-are
 
+-- of two refusals in order
+pub refused-first : {n : ℕ} (k m : ℕ) → (n ≡ 0 → ⊥) → n ≡ k → n ≡ firstRefusal k m
+unfolding firstRefusal
+refused-first zero m z e = absurd (z e)
+refused-first (suc k) m z e = e
+
+pub refused-last : {n r : ℕ} (k m : ℕ) → n ≡ 0 → n ≡ k → r ≡ m → r ≡ firstRefusal k m
+unfolding firstRefusal
+refused-last k m z e x = rw (← e, z) x
+
 module _ (t : Table) (s : State) (l : Lists) (k : Stands t s l) where
   abbrev port : Port
   port = viewState t s l
@@ -41,6 +53,11 @@ module _ (t : Table) (s : State) (l : Lists) (k : Stands t s l) where
   pub passes : tableRefusal t ≡ 0
   unfolding fit
   passes = eqb-true (tableRefusal t) 0 (all-true _ (k .fits) .0)
+
+  pub few-held : s .frames ≤ 2048
+  few-held =
+      let few = everywhere (λ (q : List Frame). length q ≤ mostFrames) (queuesIn l) (eight-queues (k .sized)) (omega arith) (fits .few) in
+      omega (arith, k .frames, eight-queues (k .sized), frames-few (queuesIn l) mostFrames few)
 
   -- 11 to 15 are asked of lines and ticks of a fit port
   pub clocked : Clocked (l .ticks) (t .lines)

@@ -61,7 +61,16 @@ pub fn report(
     }
     let time = port_refusals::tick_of(report);
     let sending = state.sender;
-    let moved = flat_scheduler::advance(frames, heads, counts, held, sending, state.clock, time, list);
+    let moved = flat_scheduler::advance(
+        frames,
+        heads,
+        counts,
+        held,
+        sending,
+        state.clock,
+        time,
+        list,
+    );
     let sender = moved.sender;
     let left = state.frames - moved.frames;
     let Report::Frame(_, line, number, length) = report else {
@@ -76,7 +85,22 @@ pub fn report(
             },
         };
     };
-    let verdict = judging::judge(words, numbers, frames, heads, counts, held, marks, ticks, credits, since, line, number, length, time);
+    let verdict = judging::judge(
+        words,
+        numbers,
+        frames,
+        heads,
+        counts,
+        held,
+        marks,
+        ticks,
+        credits,
+        since,
+        line,
+        number,
+        length,
+        time,
+    );
     Reported {
         refused: 0,
         verdict,

@@ -6,7 +6,13 @@ ghost use Rattle.port_refusals.specs.Reports.{viewReport};
 ghost use Rattle.flat_port.specs.Contracts.{Asked, refusalBy};
 
 // 0, or the number of the first, for a list of so much room.
-pub(crate) fn refusal(words: &[u64], ticks: &[u64], state: State, report: Report, room: usize) -> u32
+pub(crate) fn refusal(
+    words: &[u64],
+    ticks: &[u64],
+    state: State,
+    report: Report,
+    room: usize,
+) -> u32
     requires { ⌜ Asked (now words) (now ticks) ⌝ }
     ensures { λ r. ⌜ r ≡ refusalBy state (now (words .entry)) (now (ticks .entry)) (viewReport report) room ⌝ }
 {

@@ -52,7 +52,7 @@ fit-sends clock queues (sending p start) e =
     }
 
 -- past the eighth no queue holds a frame
-everywhere : (Q : List Frame → Type 0) (queues : List (List Frame)) → length queues ≡ 8 → Q [] → ((p : ℕ) → p < 8 → Q (queueOf queues p)) → (p : ℕ) → Q (queueOf queues p)
+pub everywhere : (Q : List Frame → Type 0) (queues : List (List Frame)) → length queues ≡ 8 → Q [] → ((p : ℕ) → p < 8 → Q (queueOf queues p)) → (p : ℕ) → Q (queueOf queues p)
 everywhere Q queues n x e p = go (decLe 8 p)
   where
     go : Dec (8 ≤ p) → Q (queueOf queues p)
