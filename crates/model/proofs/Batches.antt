@@ -72,7 +72,7 @@ freed-more [] e = omega arith
 freed-more (x ∷ entries) e = omega (arith, freed-more entries e)
 
 -- numbers put behind those at the start of a list
-pub over-more : (xs ys old l : List ℕ) (k : ℕ) → length xs ≡ k → l ≡ over xs old → take k l ++ ys ++ drop (k + length ys) l ≡ over (xs ++ ys) old
+pub over-more : (xs ys old l : List ℕ) (k : ℕ) → length xs ≡ k → l ≡ over xs old → take k l ++ (ys ++ drop (k + length ys) l) ≡ over (xs ++ ys) old
 over-more xs ys old l k n e =
     rw (
       e,

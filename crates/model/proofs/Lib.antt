@@ -49,6 +49,7 @@ pub mod Levels
 pub mod Demand
 pub mod Later
 -- ---- batches
+pub mod Reports
 pub mod Batches
 -- ---- networks A and B
 pub mod RedundancyExamples
