@@ -12,7 +12,7 @@ use Rattle.model.specs.Port.{Port}
 use Rattle.model.specs.Report.{Report, Answer}
 use Rattle.model.specs.Run.{Entry}
 use Rattle.model.specs.Batch.{Batched, reportsIn, batch, answerNumbers, departureNumbers, framesFreed, over}
-use Rattle.model.proofs.Lists.{length-flatMap, flatMap-more}
+use Rattle.model.proofs.Lists.{length-flatMap, flatMap-more, each-of-both}
 use Rattle.model.proofs.Batches.{Going, at-first, goes-on, at-last, entryOf, portAfter, freed-more, over-more, Leaves, leaves}
 use Rattle.flat_policing.specs.Accounts.{accountsOf}
 use Rattle.flat_port.specs.declared.State.{State}
@@ -20,11 +20,17 @@ use Rattle.flat_port.specs.declared.Reported.{Reported}
 use Rattle.flat_port.specs.Lists.{Lists, viewState, Stands}
 use Rattle.flat_port.specs.Contracts.{Reports}
 use Rattle.flat_batch.specs.declared.Ran.{Ran}
-use Rattle.flat_batch.specs.Contracts.{batchOf, AllRefused, Ends, Answers}
+use Rattle.flat_batch.specs.Contracts.{batchOf, AllRefused, Still, Ends, Answers}
 
 each-back : {A : Type 0} {P : A → Type 0} (l : List A) (x : A) → Each P (l ++ (x ∷ [])) → Each P l × P x
 each-back [] x (also p done) = (done, p)
 each-back (y ∷ l) x (also p rest) = let k = each-back l x rest in (also p (k .0), k .1)
+
+pub is-accepted : {accepted : Bool} {n : ℕ} → n ≡ 0 → Still accepted n true
+is-accepted e = record { none = λ z q. absurd (z e); this = λ q. absurd (let x : _≡_ {A = ℕ} 0 1 = cc in omega arith); before = λ q. absurd (let x : _≡_ {A = ℕ} 0 1 = cc in omega arith) }
+
+pub is-refused : {accepted : Bool} {n : ℕ} → (n ≡ 0 → ⊥) → Still accepted n accepted
+is-refused z = record { none = λ y q. q; this = λ q. z; before = λ q. q }
 
 pub record Progress (t : Table) (l₀ : Lists) (whole : Batched) (so-far : List Entry) (rest : List Report) (lent : List ℕ) (s : State) (l : Lists) (i written : ℕ) (accepted : Bool) : Type 0 where
   pub going : Going t whole so-far (viewState t s l) rest lent
@@ -33,6 +39,7 @@ pub record Progress (t : Table) (l₀ : Lists) (whole : Batched) (so-far : List 
   pub freed : framesFreed so-far ≡ written
   pub departed : length (flatMap departureNumbers so-far) ≡ 3 * written
   pub untouched : AllRefused so-far → accepted ≡ false
+  pub all-refused : accepted ≡ false → AllRefused so-far
   pub lines-behind : drop (t .lines) (l .ticks) ≡ drop (t .lines) (l₀ .ticks)
   pub accounts-behind : drop (length (t .links)) (accountsOf (l .credits) (l .since)) ≡ drop (length (t .links)) (accountsOf (l₀ .credits) (l₀ .since))
 
@@ -46,6 +53,7 @@ at-start {t} {s} {l} reports list k =
       freed = refl;
       departed = refl;
       untouched = λ x. refl;
+      all-refused = λ x. done;
       lines-behind = refl;
       accounts-behind = refl;
     }
@@ -59,6 +67,7 @@ at-end k =
       stands = k .stands;
       departures = sym (k .freed) ∙ ap framesFreed (sym (ap (λ (b : Batched). b .entries) e));
       untouched = λ x. k .untouched (rw e at x);
+      all-refused = λ x. rw e (k .all-refused x);
       lines-behind = k .lines-behind;
       accounts-behind = k .accounts-behind;
     }
@@ -72,7 +81,7 @@ module _ {t : Table} {l₀ : Lists} {whole : Batched} {so-far : List Entry} {r :
   pub left : Leaves lent entry
   left = leaves t (viewState t s l) r lent
 
-  pub one-more : {flag : Bool} → ((a .refused ≡ 0 → ⊥) → accepted ≡ false → flag ≡ false) →
+  pub one-more : {flag : Bool} → Still accepted (a .refused) flag →
       Progress t l₀ whole (so-far ++ (entry ∷ [])) rest (drop (3 * a .frames) lent) (a .state) l' (i + 1) (written + a .frames) flag
   one-more {flag} f =
       record {
@@ -81,7 +90,8 @@ module _ {t : Table} {l₀ : Lists} {whole : Batched} {so-far : List Entry} {r :
         count = rw length-append (omega (arith, k .count));
         freed = rw (freed-more so-far entry, x .frames) (omega (arith, k .freed));
         departed = rw (flatMap-more departureNumbers so-far entry, length-append) (omega (arith, k .departed, left .written, x .frames));
-        untouched = λ y. let z = each-back so-far entry y in f (λ q. z .1 (sym (x .refused) ∙ q)) (k .untouched (z .0));
+        untouched = λ y. let z = each-back so-far entry y in f .none (λ q. z .1 (sym (x .refused) ∙ q)) (k .untouched (z .0));
+        all-refused = λ q. each-of-both (k .all-refused (f .before q)) (also (λ z. f .this q (x .refused ∙ z)) done);
         lines-behind = x .lines-behind ∙ k .lines-behind;
         accounts-behind = x .accounts-behind ∙ k .accounts-behind;
       }

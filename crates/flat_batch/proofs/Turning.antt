@@ -19,7 +19,7 @@ use Rattle.flat_port.specs.declared.Reported.{Reported}
 use Rattle.flat_port.specs.Lists.{Lists, viewState, Stands}
 use Rattle.flat_port.specs.Contracts.{Reports}
 use Rattle.flat_batch.specs.declared.Ran.{Ran}
-use Rattle.flat_batch.specs.Contracts.{batchOf, Ends, Answers}
+use Rattle.flat_batch.specs.Contracts.{batchOf, Still, Ends, Answers}
 use Rattle.flat_batch.proofs.Progress.{Progress, at-start, at-end, left, one-more, start-fits, rest-lent, rest-back}
 
 -- ---- a report by its five numbers
@@ -105,7 +105,7 @@ module _ {t : Table} {l₀ : Lists} {whole : Batched} {reports answers₀ list�
         let n : length (flatMap departureNumbers (k .so-far) ++ departureNumbers entry) ≡ 3 * (written + a .frames) = rw length-append (omega (arith, k .progress .departed, away .written, reported .frames)) in
         omega (arith, start-fits list₀ (flatMap departureNumbers (k .so-far) ++ departureNumbers entry) n (le ∙ list-more) (ll ∙ k .list-long), k .list-long)
 
-    pub turns : {flag : Bool} → ((a .refused ≡ 0 → ⊥) → accepted ≡ false → flag ≡ false) → {n m : ℕ} → n ≡ a .refused → m ≡ a .verdict → {answers' list' : List ℕ} →
+    pub turns : {flag : Bool} → Still accepted (a .refused) flag → {n m : ℕ} → n ≡ a .refused → m ≡ a .verdict → {answers' list' : List ℕ} →
         answers' ≡ set (set (set answers (3 * i) n) (3 * i + 1) m) (3 * i + 2) (a .frames) →
         list' ≡ take (3 * written) list ++ (part ++ drop (length list - 3 * written) (drop (3 * written) list)) → length answers' ≡ length answers → length list' ≡ length list →
         Turning t l₀ whole reports answers₀ list₀ (a .state) l' (i + 1) (written + a .frames) flag answers' list'

@@ -22,12 +22,19 @@ batchOf t s l reports list = batch t (viewState t s l) reports list
 abbrev pub AllRefused : List Entry → Type 0
 AllRefused entries = Each (λ (e : Entry). e .answer .refused ≡ 0 → ⊥) entries
 
+-- with one report more: none is accepted if none was, and this one is refused
+pub record Still (accepted : Bool) (refused : ℕ) (r : Bool) : Type 0 where
+  pub none : (refused ≡ 0 → ⊥) → accepted ≡ false → r ≡ false
+  pub this : r ≡ false → refused ≡ 0 → ⊥
+  pub before : r ≡ false → accepted ≡ false
+
 -- where the port is after a batch, and how many departures were written
 pub record Ends (t : Table) (l : Lists) (b : Batched) (r : Ran) (l' : Lists) : Type 0 where
   pub port : viewState t (r .state) l' ≡ b .port
   pub stands : Stands t (r .state) l'
   pub departures : r .departures ≡ framesFreed (b .entries)
   pub untouched : AllRefused (b .entries) → r .accepted ≡ false
+  pub all-refused : r .accepted ≡ false → AllRefused (b .entries)
   pub lines-behind : drop (t .lines) (l' .ticks) ≡ drop (t .lines) (l .ticks)
   pub accounts-behind : drop (length (t .links)) (accountsOf (l' .credits) (l' .since)) ≡ drop (length (t .links)) (accountsOf (l .credits) (l .since))
 

@@ -3,7 +3,6 @@ use flat_port::State;
 use numbers::u32_as_u64;
 use port_refusals::Report;
 ghost use mathlib.Core.Path.{_≡_};
-ghost use mathlib.Core.Bool.{false};
 ghost use Prim.Native.Nat.{_+_, _*_, _/_, _≤_};
 ghost use lib.ListN.{length, getD};
 ghost use Rattle.model.specs.Batch.{reportsIn};
@@ -12,7 +11,7 @@ ghost use Rattle.port_refusals.specs.Reports.{viewReport};
 ghost use Rattle.flat_table.specs.View.{viewWords};
 ghost use Rattle.flat_port.specs.Lists.{lists, Stands};
 ghost use Rattle.flat_port.specs.Contracts.{Worded};
-ghost use Rattle.flat_batch.specs.Contracts.{batchOf, Ends, Answers};
+ghost use Rattle.flat_batch.specs.Contracts.{Still, batchOf, Ends, Answers};
 
 // The state after the last report, how many departures were written, and whether any report was accepted.
 pub struct Ran {
@@ -39,7 +38,7 @@ fn report_at(reports: &[u64], at: usize) -> Report
 
 // Whether any was accepted, with one report more.
 fn still(accepted: bool, refused: u32) -> bool
-    ensures { λ r. ⌜ ((refused ≡ 0 → ⊥) → accepted ≡ false → r ≡ false) ⌝ }
+    ensures { λ r. ⌜ Still accepted refused r ⌝ }
 {
     if refused == 0 {
         return true;
