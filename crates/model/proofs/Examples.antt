@@ -20,7 +20,8 @@ use Rattle.model.specs.Port.{fresh}
 use Rattle.model.specs.Fitness.{namesLink, framesFit, senderFit, fit}
 use Rattle.model.specs.Report.{tickOf, frameChecks, reportChecks, allChecks, reportRefusal, admits, admitted, replenished, charged, checkedIf, police, policeAt, hasRoom, storedIf, store, passedIf, judge, judgeReport, bytesFreed, acceptedOr, step}
 use Rattle.model.specs.Run.{run}
-use Rattle.model.specs.Examples.{Outcome, Example, gives-bound, gives-hold, gives-sizing, lacks-bounds, gives-answers, gives-held, gives-fates, keeps, breaks, fills, gives-bags, gives-sheet, selects, outcomes, Correct}
+use Rattle.model.specs.Batch.{answerBatch, batchFile}
+use Rattle.model.specs.Examples.{Outcome, Example, gives-bound, gives-hold, gives-sizing, lacks-bounds, gives-answers, gives-held, gives-fates, keeps, breaks, fills, gives-bags, gives-sheet, selects, gives-batch, gives-bytes, outcomes, Correct}
 use Rattle.model.specs.Examples as example
 use Rattle.model.proofs.Bags.{bag-constants}
 
@@ -53,6 +54,12 @@ computes (gives-hold t p h) = eqb (hold t p) h
 computes (lacks-bounds t n) = eqb (boundsRefusal t) n
 computes (gives-answers t calls expected) = sameOutcomes (outcomes t calls) expected
 computes (gives-sheet t printed) = sameNumbers (sheet (tableBytes t)) (text printed)
+computes (gives-batch t reports answers list refused answersAfter listAfter departures) =
+    let o = answerBatch t (fresh t) reports answers list in
+    eqb (o .refused) refused && (sameNumbers (o .answers) answersAfter && (sameNumbers (o .list) listAfter && eqb (o .departures) departures))
+computes (gives-bytes file reports answers list refused answersAfter listAfter) =
+    let o = batchFile file reports answers list in
+    eqb (o .refused) refused && (sameNumbers (o .answers) answersAfter && sameNumbers (o .list) listAfter)
 -- the whole answer is shown from its parts, in ClimbedExamples, the words of demand 3 from the answers, in ClauseExamples, a full buffer
 -- in FullExamples, the eight BAGs in Bags, and networks A and B in RedundancyExamples
 computes (gives-sizing t expected) = false
@@ -100,6 +107,17 @@ settled (gives-hold t p h) e = eqb-true (hold t p) h e
 settled (lacks-bounds t n) e = eqb-true (boundsRefusal t) n e
 settled (gives-answers t calls expected) e = outcomes-equal (outcomes t calls) expected e
 settled (gives-sheet t printed) e = numbers-equal (sheet (tableBytes t)) (text printed) e
+settled (gives-batch t reports answers list refused answersAfter listAfter departures) e =
+    let o = answerBatch t (fresh t) reports answers list in
+    let s = and-eq-true-iff (eqb (o .refused) refused) _ .0 e in
+    let r = and-eq-true-iff (sameNumbers (o .answers) answersAfter) _ .0 (s .1) in
+    let q = and-eq-true-iff (sameNumbers (o .list) listAfter) (eqb (o .departures) departures) .0 (r .1) in
+    (eqb-true (o .refused) refused (s .0), numbers-equal (o .answers) answersAfter (r .0), numbers-equal (o .list) listAfter (q .0), eqb-true (o .departures) departures (q .1))
+settled (gives-bytes file reports answers list refused answersAfter listAfter) e =
+    let o = batchFile file reports answers list in
+    let s = and-eq-true-iff (eqb (o .refused) refused) _ .0 e in
+    let r = and-eq-true-iff (sameNumbers (o .answers) answersAfter) (sameNumbers (o .list) listAfter) .0 (s .1) in
+    (eqb-true (o .refused) refused (s .0), numbers-equal (o .answers) answersAfter (r .0), numbers-equal (o .list) listAfter (r .1))
 settled (gives-sizing t expected) e = absurd (let z : _≡_ {A = ℕ} 0 1 = cc in omega arith)
 settled (gives-held t calls p expected) e = absurd (let z : _≡_ {A = ℕ} 0 1 = cc in omega arith)
 settled (gives-fates t calls n expected) e = absurd (let z : _≡_ {A = ℕ} 0 1 = cc in omega arith)

@@ -59,4 +59,5 @@ pub mod Examples
 pub mod ClauseExamples
 pub mod ClimbedExamples
 pub mod FullExamples
+pub mod BatchExamples
 pub mod Theorems

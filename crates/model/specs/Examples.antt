@@ -1,5 +1,5 @@
 -- The ten marked examples of the paper, a to j, and ours: k to y, windows, a full buffer (table C), whole answers and sheets, the words of
--- demand 3, and networks A and B, as one list.
+-- demand 3, networks A and B, and batches, as one list.
 use mathlib.Core.Path.{_≡_}
 use mathlib.Core.Bool.{true}
 use mathlib.Core.List.{List, [], _∷_, _++_, map, reverse}
@@ -12,11 +12,12 @@ use Rattle.model.specs.Table.{Table}
 use Rattle.model.specs.TableFile.{tableBytes}
 use Rattle.model.specs.Bounds.{boundsRefusal, hold, bound, window, Sizing, sizing}
 use Rattle.model.specs.Machine.{Frame, queueOf}
-use Rattle.model.specs.Port.{markOf}
+use Rattle.model.specs.Port.{markOf, fresh}
 use Rattle.model.specs.Fitness.{fit}
 use Rattle.model.specs.Report.{Report, wait, frame, Answer, Call, arrived}
 use Rattle.model.specs.Sheet.{text, sheet}
 use Rattle.model.specs.Run.{Entry, run, storedBy, policedBy, droppedBy, passedBy, throughBy, heldOf, mostHeld, ticksOf, LinkKeeps}
+use Rattle.model.specs.Batch.{answerBatch, bytesOf, batchFile}
 use Rattle.model.specs.RedundancyExamples.{Recording, repliesTo, recordings}
 
 -- the answer of a call, and the list as it left it
@@ -61,6 +62,11 @@ pub data Example : Type 0 where
   gives-sheet : Table → String → Example
   -- calls with what waits on A and B, with what comes of each
   selects : Recording → Example
+  -- a table, to whose fresh port a batch goes: reports in numbers, the answers and the departure list before it; then 0 or the refusal, both
+  -- lists after it, and how many departures were written
+  gives-batch : Table → List ℕ → List ℕ → List ℕ → ℕ → List ℕ → List ℕ → ℕ → Example
+  -- the same through the C interface, in bytes: a table file, reports, answers, departure list; then 0 or the refusal, and both lists
+  gives-bytes : List ℕ → List ℕ → List ℕ → List ℕ → ℕ → List ℕ → List ℕ → Example
 
 -- the log of calls in order, the latest first
 abbrev pub logOf : Table → List Call → List Entry
@@ -106,6 +112,12 @@ Correct (fills t calls clock p frames mark) =
 Correct (gives-bags bags) = eight bagOf ≡ bags
 Correct (gives-sheet t printed) = sheet (tableBytes t) ≡ text printed
 Correct (selects r) = repliesTo (r .skew) (r .calls) ≡ r .replies
+Correct (gives-batch t reports answers list refused answersAfter listAfter departures) =
+    let o = answerBatch t (fresh t) reports answers list in
+    (o .refused ≡ refused) × (o .answers ≡ answersAfter) × (o .list ≡ listAfter) × (o .departures ≡ departures)
+Correct (gives-bytes file reports answers list refused answersAfter listAfter) =
+    let o = batchFile file reports answers list in
+    (o .refused ≡ refused) × (o .answers ≡ answersAfter) × (o .list ≡ listAfter)
 
 -- ---- shorthand: number, line, priority, greatest length; "All codes and jitter 0 unless named"
 abbrev pub plain : ℕ → ℕ → ℕ → ℕ → VirtualLink
@@ -504,6 +516,128 @@ printedNt =
 abbrev pub sheetNt : Example
 sheetNt = gives-sheet tableNt printedNt
 
+-- ---- batches, to table E's fresh port
+
+-- reports in numbers. "for a wait the last three are not read": they are 7
+abbrev pub waitAt : ℕ → List ℕ
+waitAt time = 0 ∷ time ∷ 7 ∷ 7 ∷ 7 ∷ []
+
+abbrev pub frameAt : ℕ → ℕ → ℕ → ℕ → List ℕ
+frameAt time line number len = 1 ∷ time ∷ line ∷ number ∷ len ∷ []
+
+abbrev pub sevens : ℕ → List ℕ
+sevens n = replicate n 7
+
+-- a batch that is refused: both lists as found, and no departure
+abbrev pub refuses-batch : List ℕ → ℕ → ℕ → Example
+refuses-batch reports room n = gives-batch tableE reports (sevens room) (sevens 6) n (sevens room) (sevens 6) 0
+
+-- two frames, which leave by the third report: "frames freed", and their six numbers in a list that has room for just these
+abbrev pub reportsTwo : List ℕ
+reportsTwo = frameAt 1_000 1 2 1_000 ++ frameAt 1_001 0 1 500 ++ waitAt 5_000
+
+abbrev pub departuresTwo : List ℕ
+departuresTwo = 2 ∷ 1_000 ∷ 2_000 ∷ 1 ∷ 500 ∷ 2_500 ∷ []
+
+abbrev pub batchTwo : Example
+batchTwo = gives-batch tableE reportsTwo (sevens 11) (sevens 6) 0 (0 ∷ 0 ∷ 0 ∷ 0 ∷ 0 ∷ 0 ∷ 0 ∷ 0 ∷ 2 ∷ 7 ∷ 7 ∷ []) departuresTwo 2
+
+-- "a departure list too short stays 16 for the report concerned"
+abbrev pub batchShort : Example
+batchShort = gives-batch tableE reportsTwo (sevens 9) (sevens 5) 0 (0 ∷ 0 ∷ 0 ∷ 0 ∷ 0 ∷ 0 ∷ 16 ∷ 0 ∷ 0 ∷ []) (sevens 5) 0
+
+-- "each lent the rest of the list": of five numbers the first departure leaves two, which are too few for the second
+abbrev pub batchRest : Example
+batchRest =
+    gives-batch tableE (frameAt 1_000 0 1 500 ++ waitAt 5_000 ++ frameAt 20_000 0 1 400 ++ waitAt 30_000) (sevens 12) (sevens 5)
+    0 (0 ∷ 0 ∷ 0 ∷ 0 ∷ 0 ∷ 1 ∷ 0 ∷ 0 ∷ 0 ∷ 16 ∷ 0 ∷ 0 ∷ []) (1 ∷ 500 ∷ 1_500 ∷ 7 ∷ 7 ∷ []) 1
+
+-- it goes on after a refused report
+abbrev pub batchGoesOn : Example
+batchGoesOn =
+    gives-batch tableE (waitAt 100 ++ waitAt 50 ++ frameAt 1_000 0 1 500 ++ frameAt 1_000 0 1 500 ++ waitAt 1_500) (sevens 15) (sevens 6)
+    0 (0 ∷ 0 ∷ 0 ∷ 12 ∷ 0 ∷ 0 ∷ 0 ∷ 0 ∷ 0 ∷ 15 ∷ 0 ∷ 0 ∷ 0 ∷ 0 ∷ 1 ∷ []) (1 ∷ 500 ∷ 1_500 ∷ 7 ∷ 7 ∷ 7 ∷ []) 1
+
+-- no number is cut: 65,537 is no link's, 256 no line, 66,036 no length, 2^48 no tick
+abbrev pub batchUncut : Example
+batchUncut =
+    gives-batch tableE (frameAt 1_000 0 65_537 500 ++ frameAt 2_000 0 1 66_036 ++ frameAt 2_000 256 1 500 ++ waitAt 281_474_976_710_656) (sevens 12) (sevens 6)
+    0 (0 ∷ 1 ∷ 0 ∷ 14 ∷ 0 ∷ 0 ∷ 13 ∷ 0 ∷ 0 ∷ 11 ∷ 0 ∷ 0 ∷ []) (sevens 6) 0
+
+-- 19: "list length not a multiple of 5 or an unknown form", wherever it stands, 2^32 among them. 20: "answer list too short for three numbers
+-- a report". "in that order"
+abbrev pub thirdOf : ℕ → List ℕ
+thirdOf form = frameAt 1_000 1 2 1_000 ++ frameAt 1_001 0 1 500 ++ (form ∷ 5_000 ∷ 0 ∷ 1 ∷ 500 ∷ [])
+
+abbrev pub batchForm : Example
+batchForm = refuses-batch (thirdOf 2) 9 19
+
+abbrev pub batchWideForm : Example
+batchWideForm = refuses-batch (thirdOf 4_294_967_296) 9 19
+
+abbrev pub batchPart : Example
+batchPart = refuses-batch (reportsTwo ++ (0 ∷ 5_000 ∷ 0 ∷ 0 ∷ [])) 9 19
+
+abbrev pub batchNoRoom : Example
+batchNoRoom = refuses-batch reportsTwo 8 20
+
+abbrev pub batchBoth : Example
+batchBoth = refuses-batch (thirdOf 2) 8 19
+
+-- no reports: 0, and never 20
+abbrev pub batchNone : Example
+batchNone = gives-batch tableE [] [] (sevens 6) 0 [] (sevens 6) 0
+
+-- ---- through the C interface
+
+-- a number below 65,536 "in 8 little-endian bytes", by its two lowest bytes
+abbrev pub eightBytes : ℕ → ℕ → List ℕ
+eightBytes lowest next = lowest ∷ next ∷ replicate 6 0
+
+abbrev pub zeros : ℕ → List ℕ
+zeros n = replicate n 0
+
+-- reportsTwo with an answer list of 73 bytes and a departure list of 55: the bytes behind whole numbers stay as found. Of 47 bytes "only whole
+-- numbers count", five
+abbrev pub bytesTwo : Example
+bytesTwo =
+    gives-bytes (tableBytes tableE)
+    (eightBytes 1 0 ++ eightBytes 232 3 ++ eightBytes 1 0 ++ eightBytes 2 0 ++ eightBytes 232 3
+    ++ eightBytes 1 0 ++ eightBytes 233 3 ++ eightBytes 0 0 ++ eightBytes 1 0 ++ eightBytes 244 1
+    ++ eightBytes 0 0 ++ eightBytes 136 19 ++ sevens 24)
+    (sevens 73) (sevens 55)
+    0 (zeros 64 ++ (2 ∷ zeros 7) ++ sevens 1)
+    (eightBytes 2 0 ++ eightBytes 232 3 ++ eightBytes 208 7 ++ eightBytes 1 0 ++ eightBytes 244 1 ++ eightBytes 196 9 ++ sevens 7)
+
+abbrev pub bytesShort : Example
+bytesShort = gives-bytes (tableBytes tableE) (bytesOf reportsTwo) (sevens 72) (sevens 47) 0 (zeros 48 ++ (16 ∷ zeros 23)) (sevens 47)
+
+-- a call in bytes that is refused: both lists as found
+abbrev pub refuses-bytes : List ℕ → List ℕ → ℕ → ℕ → Example
+refuses-bytes file reports room n = gives-bytes file reports (sevens room) (sevens 55) n (sevens room) (sevens 55)
+
+abbrev pub bytesNoRoom : Example
+bytesNoRoom = refuses-bytes (tableBytes tableE) (bytesOf reportsTwo) 71 20
+
+abbrev pub bytesBoth : Example
+bytesBoth = refuses-bytes (tableBytes tableE) (bytesOf (thirdOf 4_294_967_296)) 71 19
+
+-- "A report list that is no multiple of 40 bytes is 19": 44 bytes, where its five whole numbers are a report; 39, "refusals of the file come
+-- before all others": here 7, a byte behind the file
+abbrev pub bytesPart : Example
+bytesPart = refuses-bytes (tableBytes tableE) (bytesOf (waitAt 0) ++ zeros 4) 24 19
+
+abbrev pub bytesBadFile : Example
+bytesBadFile = refuses-bytes (tableBytes tableE ++ zeros 1) (zeros 39) 0 7
+
+abbrev pub bytesNone : Example
+bytesNone = refuses-bytes (tableBytes tableE) [] 7 0
+
+abbrev pub batches : List Example
+batches =
+    batchTwo ∷ batchShort ∷ batchRest ∷ batchGoesOn ∷ batchUncut ∷ batchForm ∷ batchWideForm ∷ batchPart ∷ batchNoRoom ∷ batchBoth ∷ batchNone
+    ∷ bytesTwo ∷ bytesShort ∷ bytesNoRoom ∷ bytesBoth ∷ bytesPart ∷ bytesBadFile ∷ bytesNone ∷ []
+
 abbrev pub words : List Example
 words =
     heldD0 ∷ heldD1 ∷ heldR1 ∷ heldN0 ∷ heldV0 ∷ fatesE ∷ fatesF ∷ fatesN ∷ fatesP ∷ fatesQ ∷ fatesV ∷ fatesW ∷ keepsF ∷ keepsV ∷ breaksE ∷ breaksW ∷ []
@@ -514,7 +648,7 @@ selections = map selects recordings
 abbrev pub examples : List Example
 examples =
     a ∷ b ∷ c ∷ d ∷ e ∷ f ∷ g ∷ h ∷ i ∷ j ∷ k ∷ l ∷ m ∷ n ∷ o ∷ p ∷ q ∷ r ∷ s ∷ t ∷ u ∷ v ∷ w ∷ x ∷ y
-    ∷ sizingE ∷ windowK ∷ windowP ∷ windowO0 ∷ windowO1 ∷ windowNt0 ∷ windowNt3 ∷ sizingNt ∷ boundC ∷ filledC ∷ sheetE ∷ sheetNt ∷ (words ++ selections)
+    ∷ sizingE ∷ windowK ∷ windowP ∷ windowO0 ∷ windowO1 ∷ windowNt0 ∷ windowNt3 ∷ sizingNt ∷ boundC ∷ filledC ∷ sheetE ∷ sheetNt ∷ (words ++ (selections ++ batches))
 
 abbrev pub ExamplesCorrect : Type 0
 ExamplesCorrect = Each Correct examples
