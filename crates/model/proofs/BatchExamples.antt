@@ -66,6 +66,10 @@ pub bytesTwo : Correct example.bytesTwo
 unfolding the-bytes
 bytesTwo = settled example.bytesTwo refl
 
+pub bytesFits : Correct example.bytesFits
+unfolding the-bytes
+bytesFits = settled example.bytesFits refl
+
 pub bytesShort : Correct example.bytesShort
 unfolding the-bytes
 bytesShort = settled example.bytesShort refl
@@ -92,4 +96,6 @@ bytesNone = settled example.bytesNone refl
 
 pub batches-correct : Each Correct batches
 batches-correct =
-    also batchTwo (also batchShort (also batchRest (also batchGoesOn (also batchUncut (also batchForm (also batchWideForm (also batchPart (also batchNoRoom (also batchBoth (also batchNone (also bytesTwo (also bytesShort (also bytesNoRoom (also bytesBoth (also bytesPart (also bytesBadFile (also bytesNone done)))))))))))))))))
+    also batchTwo (also batchShort (also batchRest (also batchGoesOn (also batchUncut
+    (also batchForm (also batchWideForm (also batchPart (also batchNoRoom (also batchBoth (also batchNone
+    (also bytesTwo (also bytesFits (also bytesShort (also bytesNoRoom (also bytesBoth (also bytesPart (also bytesBadFile (also bytesNone done))))))))))))))))))

@@ -529,8 +529,8 @@ abbrev pub sevens : ℕ → List ℕ
 sevens n = replicate n 7
 
 -- a batch that is refused: both lists as found, and no departure
-abbrev pub refuses-batch : List ℕ → ℕ → ℕ → Example
-refuses-batch reports room n = gives-batch tableE reports (sevens room) (sevens 6) n (sevens room) (sevens 6) 0
+abbrev pub refusesBatch : List ℕ → ℕ → ℕ → Example
+refusesBatch reports room n = gives-batch tableE reports (sevens room) (sevens 6) n (sevens room) (sevens 6) 0
 
 -- two frames, which leave by the third report: "frames freed", and their six numbers in a list that has room for just these
 abbrev pub reportsTwo : List ℕ
@@ -570,19 +570,19 @@ abbrev pub thirdOf : ℕ → List ℕ
 thirdOf form = frameAt 1_000 1 2 1_000 ++ frameAt 1_001 0 1 500 ++ (form ∷ 5_000 ∷ 0 ∷ 1 ∷ 500 ∷ [])
 
 abbrev pub batchForm : Example
-batchForm = refuses-batch (thirdOf 2) 9 19
+batchForm = refusesBatch (thirdOf 2) 9 19
 
 abbrev pub batchWideForm : Example
-batchWideForm = refuses-batch (thirdOf 4_294_967_296) 9 19
+batchWideForm = refusesBatch (thirdOf 4_294_967_296) 9 19
 
 abbrev pub batchPart : Example
-batchPart = refuses-batch (reportsTwo ++ (0 ∷ 5_000 ∷ 0 ∷ 0 ∷ [])) 9 19
+batchPart = refusesBatch (reportsTwo ++ (0 ∷ 5_000 ∷ 0 ∷ 0 ∷ [])) 9 19
 
 abbrev pub batchNoRoom : Example
-batchNoRoom = refuses-batch reportsTwo 8 20
+batchNoRoom = refusesBatch reportsTwo 8 20
 
 abbrev pub batchBoth : Example
-batchBoth = refuses-batch (thirdOf 2) 8 19
+batchBoth = refusesBatch (thirdOf 2) 8 19
 
 -- no reports: 0, and never 20
 abbrev pub batchNone : Example
@@ -597,8 +597,8 @@ eightBytes lowest next = lowest ∷ next ∷ replicate 6 0
 abbrev pub zeros : ℕ → List ℕ
 zeros n = replicate n 0
 
--- reportsTwo with an answer list of 73 bytes and a departure list of 55: the bytes behind whole numbers stay as found. Of 47 bytes "only whole
--- numbers count", five
+-- reportsTwo with an answer list of 73 bytes and a departure list of 55: the bytes behind whole numbers stay as found. Of 48
+-- bytes; of 47, of which "only whole numbers count", five
 abbrev pub bytesTwo : Example
 bytesTwo =
     gives-bytes (tableBytes tableE)
@@ -609,34 +609,37 @@ bytesTwo =
     0 (zeros 64 ++ (2 ∷ zeros 7) ++ sevens 1)
     (eightBytes 2 0 ++ eightBytes 232 3 ++ eightBytes 208 7 ++ eightBytes 1 0 ++ eightBytes 244 1 ++ eightBytes 196 9 ++ sevens 7)
 
+abbrev pub bytesFits : Example
+bytesFits = gives-bytes (tableBytes tableE) (bytesOf reportsTwo) (sevens 72) (sevens 48) 0 (zeros 64 ++ (2 ∷ zeros 7)) (bytesOf departuresTwo)
+
 abbrev pub bytesShort : Example
 bytesShort = gives-bytes (tableBytes tableE) (bytesOf reportsTwo) (sevens 72) (sevens 47) 0 (zeros 48 ++ (16 ∷ zeros 23)) (sevens 47)
 
 -- a call in bytes that is refused: both lists as found
-abbrev pub refuses-bytes : List ℕ → List ℕ → ℕ → ℕ → Example
-refuses-bytes file reports room n = gives-bytes file reports (sevens room) (sevens 55) n (sevens room) (sevens 55)
+abbrev pub refusesBytes : List ℕ → List ℕ → ℕ → ℕ → Example
+refusesBytes file reports room n = gives-bytes file reports (sevens room) (sevens 55) n (sevens room) (sevens 55)
 
 abbrev pub bytesNoRoom : Example
-bytesNoRoom = refuses-bytes (tableBytes tableE) (bytesOf reportsTwo) 71 20
+bytesNoRoom = refusesBytes (tableBytes tableE) (bytesOf reportsTwo) 71 20
 
 abbrev pub bytesBoth : Example
-bytesBoth = refuses-bytes (tableBytes tableE) (bytesOf (thirdOf 4_294_967_296)) 71 19
+bytesBoth = refusesBytes (tableBytes tableE) (bytesOf (thirdOf 4_294_967_296)) 71 19
 
--- "A report list that is no multiple of 40 bytes is 19": 44 bytes, where its five whole numbers are a report; 39, "refusals of the file come
--- before all others": here 7, a byte behind the file
+-- "A report list that is no multiple of 40 bytes is 19": 44 bytes, though their five whole numbers are a report. "refusals of the file come
+-- before all others": 39 bytes, and a byte behind the file
 abbrev pub bytesPart : Example
-bytesPart = refuses-bytes (tableBytes tableE) (bytesOf (waitAt 0) ++ zeros 4) 24 19
+bytesPart = refusesBytes (tableBytes tableE) (bytesOf (waitAt 0) ++ zeros 4) 24 19
 
 abbrev pub bytesBadFile : Example
-bytesBadFile = refuses-bytes (tableBytes tableE ++ zeros 1) (zeros 39) 0 7
+bytesBadFile = refusesBytes (tableBytes tableE ++ zeros 1) (zeros 39) 0 7
 
 abbrev pub bytesNone : Example
-bytesNone = refuses-bytes (tableBytes tableE) [] 7 0
+bytesNone = gives-bytes (tableBytes tableE) [] (sevens 7) (sevens 55) 0 (sevens 7) (sevens 55)
 
 abbrev pub batches : List Example
 batches =
     batchTwo ∷ batchShort ∷ batchRest ∷ batchGoesOn ∷ batchUncut ∷ batchForm ∷ batchWideForm ∷ batchPart ∷ batchNoRoom ∷ batchBoth ∷ batchNone
-    ∷ bytesTwo ∷ bytesShort ∷ bytesNoRoom ∷ bytesBoth ∷ bytesPart ∷ bytesBadFile ∷ bytesNone ∷ []
+    ∷ bytesTwo ∷ bytesFits ∷ bytesShort ∷ bytesNoRoom ∷ bytesBoth ∷ bytesPart ∷ bytesBadFile ∷ bytesNone ∷ []
 
 abbrev pub words : List Example
 words =
