@@ -3,6 +3,7 @@
 
 #![forbid(unsafe_code)]
 
+pub mod batch;
 pub mod bounds;
 pub mod cases;
 pub mod examples;

@@ -1,8 +1,9 @@
 //! `reference CASES FOLDER` makes the cases, `reference check-CASES FOLDER` compares the committed ones with
 //! what is computed, `reference watch` watches demand 3 on the lists of the port's cases, `reference replay TABLE
-//! REPORTS` prints what the program replay must print, and `reference redundancy SKEW A B` what redundancy must.
+//! REPORTS` prints what the program replay must print, `reference redundancy SKEW A B` what redundancy must, and
+//! `reference batch TABLE REPORTS` what the examples must; `reference batch-runs FOLDER` writes files for them.
 
-use reference::cases::{bounds, differing, port, recordings, redundancy, replay, store, table, Files};
+use reference::cases::{batch, bounds, differing, port, recordings, redundancy, replay, store, table, Files};
 use std::env;
 use std::fs;
 use std::path::Path;
@@ -12,8 +13,10 @@ const USAGE: &str = "usage: reference CASES FOLDER
        reference check-CASES FOLDER
        reference replay TABLE REPORTS
        reference redundancy SKEW A B
+       reference batch TABLE REPORTS
+       reference batch-runs FOLDER
        reference watch
-CASES: table-cases, bounds-cases, port-cases, replay-case, redundancy-cases, redundancy-run";
+CASES: table-cases, bounds-cases, port-cases, batch-cases, replay-case, redundancy-cases, redundancy-run";
 
 fn make(files: Files, summary: &str, folder: &Path) -> Result<(), String> {
     store(&files, folder).map_err(|error| format!("{}: {error}", folder.display()))?;
@@ -35,6 +38,7 @@ fn cases_of(name: &str) -> Result<(Files, String), String> {
         "table-cases" => table::cases(),
         "bounds-cases" => bounds::cases(),
         "port-cases" => port::cases(),
+        "batch-cases" => batch::cases(),
         "redundancy-cases" => redundancy::cases(),
         "replay-case" => return Ok((replay::files(), String::new())),
         "redundancy-run" => return Ok((recordings::files(), String::new())),
@@ -57,6 +61,13 @@ fn run(words: &[&str]) -> Result<(), String> {
         ["replay", table, reports] => {
             print!("{}", reference::replay::replay(&contents(table)?, &contents(reports)?));
             Ok(())
+        }
+        ["batch", table, reports] => {
+            print!("{}", reference::batch::printed(&contents(table)?, &contents(reports)?));
+            Ok(())
+        }
+        ["batch-runs", folder] => {
+            store(&batch::runs(), Path::new(folder)).map_err(|error| format!("{folder}: {error}"))
         }
         ["redundancy", skew, a, b] => {
             let skew = reference::recordings::skew_of(skew).ok_or("SKEW is no numeral")?;

@@ -20,7 +20,7 @@ fn report_of(bytes: &[u8]) -> Result<Report, u32> {
 }
 
 /// "a file that is no multiple of 40 bytes, or has another form in it": 19.
-fn reports_of(file: &[u8]) -> Result<Vec<Report>, u32> {
+pub fn reports_of(file: &[u8]) -> Result<Vec<Report>, u32> {
     let reports = file.chunks_exact(REPORT_BYTES);
     if !reports.remainder().is_empty() {
         return Err(NO_REPORTS);

@@ -1,11 +1,9 @@
 // Runs the cases of standard input through the port: the fresh port of a table record or a port record, and
 // a list of reports; and prints a line for each answer. What it must print was computed by reference/, whose
 // src/cases/port.rs has the form of a case.
-mod given;
-mod record;
-mod sums;
-
-use given::least;
+use case_records::given::least;
+use case_records::record;
+use case_records::sums;
 use libc::STDIN_FILENO;
 use libc::STDOUT_FILENO;
 use little_endian::read2;
@@ -13,13 +11,16 @@ use little_endian::read8;
 use port::Answer;
 use port::Port;
 use port_scheduler::Queue;
-use sums::LIST;
+use units::LIST_ROOM;
 use units::MOST_FRAMES;
 
 // The longest record of a case.
 const BODY: usize = 12000 + 96 * MOST_FRAMES;
 
 const REPORT: usize = 35;
+
+// The longest list that is lent: some numbers more than a full port can free.
+const LIST: usize = LIST_ROOM + 20;
 
 // What a list is filled with before it is lent.
 const FILLED: u64 = 0xA5A5A5A5A5A5A5A5;
@@ -100,6 +101,7 @@ fn next_report(now: Reached) -> Reached {
 fn answer(port: Port, bytes: &[u8; REPORT]) -> Answer {
     let mut list = [FILLED; LIST];
     let a = lent(port, bytes, &mut list);
+    let sum = sums::of_list(&list, read2(bytes, 1) as usize);
     if a.refused != 0 {
         say(b"refused ");
         print(a.refused as u64);
@@ -109,7 +111,7 @@ fn answer(port: Port, bytes: &[u8; REPORT]) -> Answer {
         number(a.frames);
         number(a.bytes);
     }
-    number(sums::of_list(&list, read2(bytes, 1) as usize));
+    number(sum);
     say(b"\n");
     a
 }

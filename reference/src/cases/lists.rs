@@ -41,6 +41,16 @@ fn some_reports(random: &mut Random, i: usize) -> usize {
 fn list(random: &mut Random, i: usize) -> List {
     let table = table(random, i);
     let wanted = some_reports(random, i);
+    filled(random, table, wanted)
+}
+
+/// A list of so many reports; i tells the kind of table.
+pub fn of_length(random: &mut Random, i: usize, wanted: usize) -> List {
+    let table = table(random, i);
+    filled(random, table, wanted)
+}
+
+fn filled(random: &mut Random, table: Table, wanted: usize) -> List {
     let port = fresh(&table).expect("a good table");
     let mut maker = Maker { random, port, calls: Vec::new(), wanted };
     while maker.calls.len() < wanted {

@@ -1,5 +1,7 @@
 //! The cases: what the product's programs read from standard input, and what they must write.
 
+pub mod batch;
+pub mod batches;
 pub mod bounds;
 pub mod lists;
 pub mod make;
@@ -36,7 +38,7 @@ impl Cases {
     }
 }
 
-pub fn store(files: &Files, folder: &Path) -> io::Result<()> {
+pub fn store(files: &[(impl AsRef<Path>, Vec<u8>)], folder: &Path) -> io::Result<()> {
     for (name, bytes) in files {
         let path = folder.join(name);
         fs::create_dir_all(path.parent().unwrap_or(folder))?;

@@ -25,7 +25,7 @@ use crate::watch::{Entry, Watch};
 
 const FILLED: u64 = 0xA5A5_A5A5_A5A5_A5A5;
 
-fn fnv_of_numbers(numbers: &[u64]) -> u32 {
+pub fn fnv_of_numbers(numbers: &[u64]) -> u32 {
     let bytes: Vec<u8> = numbers.iter().flat_map(|number| number.to_le_bytes()).collect();
     fnv(&bytes)
 }
@@ -44,7 +44,7 @@ fn numbers_of_table(table: &Table) -> Vec<u64> {
 /// The clock; the table; for each priority count and mark, then each frame's number, length and arrival, up to
 /// the count or all of them; 0 if idle, else 1, priority and start; the ticks of all lines; credit and tick of all
 /// links.
-fn state_of(record: &Record, whole: bool) -> u32 {
+pub fn state_of(record: &Record, whole: bool) -> u32 {
     let mut numbers = vec![record.clock];
     numbers.extend(numbers_of_table(&record.table));
     for queue in &record.queues {
