@@ -19,6 +19,7 @@ use super::Cases;
 use crate::batch::{bytes_of_numbers, departures_of, on_file, on_record, printed, rows, whole_numbers};
 use crate::record::Record;
 use crate::replay::REPORT_BYTES;
+use crate::sheet::sheet;
 use crate::table;
 
 /// Rows of so many reports are shown, of the C call and of the two calls.
@@ -145,7 +146,7 @@ pub fn cases() -> Cases {
     cases
 }
 
-/// Files for the examples in C and Rust: the table, the reports, and what is printed of each.
+/// Files for the examples in C and Rust: the table, the reports, what is printed of them, and the table's sheet.
 pub fn runs() -> Vec<(String, Vec<u8>)> {
     let mut files = Vec::new();
     for (i, batch) in batches::all().iter().enumerate() {
@@ -153,6 +154,7 @@ pub fn runs() -> Vec<(String, Vec<u8>)> {
             files.push((format!("{i}.table"), file.clone()));
             files.push((format!("{i}.reports"), batch.reports.clone()));
             files.push((format!("{i}.printed"), printed(file, &batch.reports).into_bytes()));
+            files.push((format!("{i}.sheet"), sheet(file).into_bytes()));
         }
     }
     files
