@@ -35,15 +35,15 @@
                    5   a link's number not above the one before
                    6   a buffer size out of range
                    7   bytes behind the last record
-   of the sizing   8   no bounds: the links promise more than the port can send
+   of the sizing   8   no bounds: some priority has no hold up to 65,536 ticks
    of an output    9   too short
    of a report    10   the port record is not fit; never in these calls, which begin with a fresh port
                   11   tick above 2^48 - 1
                   12   tick below that of an accepted report before it
                   13   frame: line not below the line count
                   14   frame: length outside 84 to 1,538
-                  15   frame: tick less than its length above that of the line's frame before
-                  16   fewer numbers left in the departure list than three for each frame that the port holds
+                  15   frame: tick below that of the line's accepted frame before, or 0, plus its length
+                  16   fewer numbers left in the departure list than three for each frame held before the report
    of a batch     19   the report list is no multiple of 40 bytes, or has an unknown form in it
                   20   the answer list has fewer whole numbers than three for each report
    17 and 18 belong to a part that has no function here. */

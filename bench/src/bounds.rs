@@ -1,7 +1,7 @@
 //! Bounds, holds and windows, and the sheet: the product beside the literal formulas and beside the same method in plain Rust.
 
 use crate::measure::{compare, once};
-use crate::table::{file_of, read, Link, Table, UNKEPT};
+use crate::tables::{file_of, read, Link, Table, UNKEPT};
 use std::hint::black_box;
 
 extern "C" {

@@ -1,10 +1,14 @@
 //! Times of the product beside plain Rust peers, in one run. A peer does the same work by the same method.
 
+mod batch;
 mod bounds;
 mod measure;
+mod peer;
 mod port;
 mod redundancy;
 mod table;
+mod tables;
+mod traffic;
 
 fn main() {
     println!("medians of 201 rounds; the two sides take turns in each round; outputs are not cleared between calls");
@@ -12,5 +16,6 @@ fn main() {
     table::run();
     bounds::run();
     port::run();
+    batch::run();
     redundancy::run();
 }

@@ -15,7 +15,7 @@ pub fn compare(what: &str, calls: usize, mut product: impl FnMut(), mut peer: im
     println!("{:<44} {:>9.2} us {:>9.2} us {:>7.2}", what, a * 1e6, b * 1e6, a / b);
 }
 
-fn time(calls: usize, call: &mut impl FnMut()) -> f64 {
+pub fn time(calls: usize, call: &mut impl FnMut()) -> f64 {
     let start = Instant::now();
     for _ in 0..calls {
         call();
@@ -23,7 +23,7 @@ fn time(calls: usize, call: &mut impl FnMut()) -> f64 {
     start.elapsed().as_secs_f64() / calls as f64
 }
 
-fn median(mut times: Vec<f64>) -> f64 {
+pub fn median(mut times: Vec<f64>) -> f64 {
     times.sort_by(f64::total_cmp);
     times[times.len() / 2]
 }

@@ -2,7 +2,8 @@
 //! before it. The product, in a program of its own that makes four reports in a row, over and over, beside a plain Rust
 //! port that is lent and not copied.
 
-use crate::table::{file_of, Link, Table, UNKEPT};
+use crate::tables::{file_of, Table, UNKEPT};
+use crate::traffic;
 use std::hint::black_box;
 use std::io::Write;
 use std::process::{Command, Stdio};
@@ -10,23 +11,6 @@ use std::time::Instant;
 
 const REPORTS: u64 = 40_000;
 const FRAME: u64 = 84;
-
-/// 240 links on 24 lines, eight priorities; each link may send 11 frames at once.
-fn table() -> Table {
-    let mut links = [Link::default(); 256];
-    for (i, v) in links.iter_mut().enumerate().take(240) {
-        *v = Link {
-            number: i as u16,
-            line: (i % 24) as u8,
-            priority: (i / 24 % 8) as u8,
-            code: 0,
-            least: 84,
-            greatest: 84,
-            jitter: 125_000,
-        };
-    }
-    Table { lines: 24, count: 240, links, sizes: [16_384; 8] }
-}
 
 /// Seconds that the program takes, and the frames that it says are queued.
 fn product(file: &[u8], frames: u64, waits: u64, reports: u64) -> (f64, u64) {
@@ -156,7 +140,7 @@ impl Port {
 }
 
 fn peer(each: [usize; 8]) -> f64 {
-    let mut port = Port::with(table(), each);
+    let mut port = Port::with(traffic::many(), each);
     let mut list = vec![0; 6_144];
     let start = Instant::now();
     for _ in 0..REPORTS {
@@ -166,7 +150,7 @@ fn peer(each: [usize; 8]) -> f64 {
 }
 
 fn peer_of_frames() -> f64 {
-    let mut port = Port::with(table(), [0; 8]);
+    let mut port = Port::with(traffic::many(), [0; 8]);
     let mut list = vec![0; 6_144];
     let start = Instant::now();
     for i in 0..REPORTS {
@@ -187,7 +171,7 @@ fn line(what: &str, ours: f64, theirs: f64) {
 }
 
 pub fn run() {
-    let file = file_of(&table());
+    let file = file_of(&traffic::many());
     println!("{:<44} {:>12} {:>12} {:>7}", "a report with the fitness check", "product", "peer", "ratio");
     // some have left by the last arrival, and none was dropped: 0, 100 and 1,000 are queued
     for frames in [0, 104, 1_043] {

@@ -14,7 +14,12 @@ extern "C" {
 }
 
 /// Answers and departures of the reports, from the fresh port of the table file; or the number of the refusal.
-pub fn batch(file: &[u8], reports: &[u8], answers: &mut [u8], departures: &mut [u8]) -> Result<(), u32> {
+pub fn batch(
+    file: &[u8],
+    reports: &[u8],
+    answers: &mut [u8],
+    departures: &mut [u8],
+) -> Result<(), u32> {
     // Slices are whole, not null, and a `&mut` overlaps no other.
     let refused = unsafe {
         fenuschia_batch(

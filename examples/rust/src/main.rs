@@ -54,7 +54,8 @@ fn try_run() -> Result<bool, String> {
         return Err("usage: batch-rust TABLE REPORTS".to_string());
     };
     let (table, reports) = (contents(table)?, contents(reports)?);
-    run(&table, &reports, &mut BufWriter::new(io::stdout().lock())).map_err(|_| "can't write".to_string())
+    run(&table, &reports, &mut BufWriter::new(io::stdout().lock()))
+        .map_err(|_| "can't write".to_string())
 }
 
 fn main() -> ExitCode {
