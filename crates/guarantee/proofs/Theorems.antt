@@ -3,7 +3,7 @@ use mathlib.Core.Path.{sym, ap, _∙_}
 use Rattle.model.specs.Bounds.{sizing}
 use Rattle.table.specs.View.{viewTable}
 use Rattle.bounds.specs.declared.Bounds.{Bounds as BoundsRecord}
-use Rattle.port.proofs.Theorems.{demand-three-of-calls}
+use Rattle.port_batch.proofs.Theorems.{demand-three-of-calls}
 use Rattle.guarantee.specs.Guarantee.{SizingHolds}
 use Rattle.guarantee.proofs.Answered.{Answers, sized, demand-by}
 

@@ -11,7 +11,7 @@ use Rattle.bounds.specs.declared.Bounds.{Bounds as BoundsRecord}
 use Rattle.bounds.specs.Answer.{recordBounds}
 use Rattle.port.specs.declared.Port.{Port as PortRecord}
 use Rattle.port.specs.View.{viewPort}
-use Rattle.port.specs.Calls.{Chain}
+use Rattle.port_batch.specs.Calls.{Chain}
 
 -- `bounds_of` answered of a table, as its contract says: then every chain of calls on that table meets demand 3 with the very bounds
 -- and holds of the answer

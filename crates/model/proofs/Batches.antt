@@ -19,7 +19,7 @@ use Rattle.model.proofs.Lists.{length-flatMap}
 use Rattle.model.proofs.Demand as Demand
 
 -- ---- a batch is a run
-calls-of : (t : Table) (reports : List Report) (list : List ℕ) (calls : List Call) → (more : List Call) ×
+pub calls-of : (t : Table) (reports : List Report) (list : List ℕ) (calls : List Call) → (more : List Call) ×
     (run t more ≡ record { port = batch t (run t calls .port) reports list .port; log = logged (batch t (run t calls .port) reports list .entries) (run t calls .log) })
 unfolding batch logged run
 calls-of t [] list calls = (calls, refl)

@@ -7,5 +7,3 @@ pub mod Policed
 pub mod Judged
 pub mod Answers
 pub mod FreshPort
-pub mod Chained
-pub mod Theorems

@@ -4,4 +4,3 @@ pub mod Charging
 pub mod Advancing
 pub mod Judging
 pub mod Resting
-pub mod Calls

@@ -1,17 +1,20 @@
--- Demand 3 for the real calls: what a user of `fresh`, `frame` and `wait` gets.
+-- Demand 3 for the real calls: what a user of `fresh`, `frame`, `wait` and `batch` gets.
 use mathlib.Core.Path.{_≡_}
 use mathlib.Core.List.{List, [], _∷_}
 use Prim.Native.Nat.{ℕ}
 use Rattle.model.specs.Bounds.{boundsRefusal}
 use Rattle.model.specs.Report.{Report, Answer}
 use Rattle.model.specs.Run.{Entry, Demand3}
+use Rattle.model.specs.Batch.{logged}
 use Rattle.table.specs.declared.Table.{Table as TableRecord}
 use Rattle.table.specs.View.{viewTable}
 use Rattle.port.specs.declared.Port.{Port as PortRecord}
 use Rattle.port.specs.declared.Answer.{Answer as AnswerRecord}
 use Rattle.port.specs.declared.Fresh.{Fresh as FreshRecord}
 use Rattle.port.specs.View.{viewPort}
 use Rattle.port.specs.Contracts.{recordFresh, Answered}
+use Rattle.port_batch.specs.declared.Batched.{Batched as BatchedRecord}
+use Rattle.port_batch.specs.Contracts.{batchFrom, Batches}
 
 -- the numbers of an answer record
 abbrev pub viewAnswer : AnswerRecord → Answer
@@ -25,6 +28,13 @@ pub data Chain (t : TableRecord) : PortRecord → List Entry → Type 0 where
   -- anything before, and its numbers afterwards
   goes-on : {p : PortRecord} {log : List Entry} {a : AnswerRecord} (r : Report) (before after : List ℕ) → Chain t p log → Answered p r before after a
       → Chain t (a .port) (record { report = r; answer = viewAnswer a; list = after } ∷ log)
+  -- `batch`, of the port that the call before handed back, answered as its contract says: each of its reports with the answer that stands
+  -- in the answer list, and the part of the departure list that it was lent
+  batches : {p : PortRecord} {log : List Entry} {b : BatchedRecord} (reports answers answers' list list' : List ℕ) → Chain t p log
+      → Batches p reports answers answers' list list' b → b .refused ≡ 0 → Chain t (b .port) (logged (batchFrom p reports list .entries) log)
+  -- a batch that was refused leaves port and log
+  batch-refused : {p : PortRecord} {log : List Entry} {b : BatchedRecord} (reports answers answers' list list' : List ℕ) → Chain t p log
+      → Batches p reports answers answers' list list' b → (b .refused ≡ 0 → ⊥) → Chain t (b .port) log
 
 -- demand 3 of every chain whose table has bounds
 abbrev pub DemandThreeOfCalls : Type 0
