@@ -1,17 +1,20 @@
 // The reports file, part by part.
 use crate::answers;
+use crate::answers::GIVEN;
+use crate::answers::LIST;
 use little_endian::read8;
 use output::Out;
 use output::ROOM;
-use port::Answer;
 use port::Port;
-use units::LIST_ROOM;
 ghost use Prim.Native.Nat.{_≤_};
+ghost use lib.ListN.{length};
 
 const REPORT: usize = 40;
 
-// The bytes of 200 reports.
+// The bytes of 200 reports, their numbers, the numbers of their answers, and room for all that can leave with them.
 const PART: usize = 8000;
+
+const NUMBERS: usize = 1000;
 
 // What stands behind a part: more, or the end. Or the part has something other than reports; or a
 // read failed; or a write did.
@@ -95,40 +98,25 @@ pub(crate) fn check(fd: i32) -> u8 {
     state
 }
 
-// Runs every report, and prints what the queues hold at the end. A file that is not what it was when it was
-// checked counts as one that can't be read. Each turn runs a report or reads the next part: one loop keeps one port.
+// Runs every report, part by part, and prints what the queues hold at the end. A file that is not what it was when it
+// was checked counts as one that can't be read.
 pub(crate) fn replay(mut port: Port, fd: i32) -> u8 {
     let mut room = [0u8; ROOM];
-    let mut list = [0u64; LIST_ROOM];
     let mut bytes = [0u8; PART];
+    let mut numbers = [0u64; NUMBERS];
+    let mut given = [0u64; GIVEN];
+    let mut list = [0u64; LIST];
     let mut out = Out::empty();
     let mut state = MORE;
-    let mut end: usize = 0;
-    let mut at: usize = 0;
     let mut turns = u64::MAX;
-    while turns > 0 && !out.failed {
-        if at < end {
-            let a = report(port, &bytes, at, &mut list);
-            port = a.port;
-            out = answers::put_answer(
-                out,
-                &mut room,
-                a.refused as u64,
-                a.verdict as u64,
-                a.frames,
-                a.bytes,
-                &list,
-            );
-            at += REPORT;
-        } else {
-            if state != MORE {
-                break;
-            }
-            let part = next_part(fd, &mut bytes);
-            state = part.state;
-            end = part.n;
-            at = 0;
-        }
+    while turns > 0 && state == MORE && !out.failed {
+        let part = next_part(fd, &mut bytes);
+        state = part.state;
+        let n = part.n / REPORT;
+        put_numbers(&bytes, 5 * n, &mut numbers);
+        let b = port_batch::batch(port, &numbers[..5 * n], &mut given, &mut list);
+        port = b.port;
+        out = answers::put_answers(out, &mut room, n, &given, &list);
         turns -= 1;
     }
     let last = finished(out, &mut room, port, state);
@@ -138,24 +126,21 @@ pub(crate) fn replay(mut port: Port, fd: i32) -> u8 {
     if state == ENDED { ENDED } else { FAILED }
 }
 
+// The first n numbers of the bytes.
+fn put_numbers(bytes: &[u8; PART], n: usize, numbers: &mut [u64])
+    requires { ⌜ n ≤ length (now numbers) ⌝ }
+{
+    let mut i: usize = 0;
+    while i < n {
+        numbers[i] = read8(bytes, 8 * i);
+        i += 1;
+    }
+}
+
 fn finished(out: Out, room: &mut [u8; ROOM], port: Port, state: u8) -> Out {
     if state != ENDED {
         return out.written(room);
     }
     let last = answers::put_end(out, room, port);
     last.written(room)
-}
-
-fn report(port: Port, bytes: &[u8; PART], at: usize, list: &mut [u64; LIST_ROOM]) -> Answer
-    requires { ⌜ at ≤ 8000 ⌝ }
-{
-    let form = read8(bytes, at);
-    let tick = read8(bytes, at + 8);
-    if form == 0 {
-        return port.wait(tick, list);
-    }
-    let line = read8(bytes, at + 16);
-    let number = read8(bytes, at + 24);
-    let length = read8(bytes, at + 32);
-    port.frame(tick, line, number, length, list)
 }
