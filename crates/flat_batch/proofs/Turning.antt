@@ -49,7 +49,7 @@ pub record Turning (t : Table) (l₀ : Lists) (whole : Batched) (reports answers
   pub reports-short : 8 * length reports < 2 ^ 64
   pub list-short : 8 * length list₀ < 2 ^ 64
 
-further : (w f : ℕ) (list : List ℕ) → drop (3 * f) (drop (3 * w) list) ≡ drop (3 * (w + f)) list
+pub further : (w f : ℕ) (list : List ℕ) → drop (3 * f) (drop (3 * w) list) ≡ drop (3 * (w + f)) list
 further w f list = let e : 3 * (w + f) ≡ 3 * w + 3 * f = omega arith in rw e (drop-drop (3 * f) (3 * w) list)
 
 pub starts : {t : Table} {s : State} {l : Lists} (reports answers list : List ℕ) → Stands t s l → 3 * (length reports / 5) ≤ length answers → 8 * length reports < 2 ^ 64 → 8 * length list < 2 ^ 64 →

@@ -37,7 +37,7 @@ fn report_at(reports: &[u64], at: usize) -> Report
 }
 
 // Whether any was accepted, with one report more.
-fn still(accepted: bool, refused: u32) -> bool
+pub fn still(accepted: bool, refused: u32) -> bool
     ensures { λ r. ⌜ Still accepted refused r ⌝ }
 {
     if refused == 0 {
