@@ -1,14 +1,16 @@
 -- 19 and 20: the forms, one after the other.
 use mathlib.Core.Path.{_≡_, refl, _∙_}
-use mathlib.Core.Bool.{true, false}
-use mathlib.Core.List.{List}
+use mathlib.Core.Bool.{true, false, _&&_, not}
+use mathlib.Core.List.{List, [], _∷_}
 use Prim.Native.Nat.{ℕ, _+_, _*_, _/_, _%_, _≤_, _<_}
 use native.Mathlib.Omega.{arith}
+use lib.Dec.{eqb}
 use lib.ListN.{length, getD, drop, length-drop}
-use borrow.Author.Tests.{eq-eqb, ne-eqb, lt-ltb, le-ltb}
-use Rattle.model.specs.Basics.{firstMet}
+use borrow.Author.Tests.{ltb-false, eq-eqb, ne-eqb, lt-ltb, le-ltb}
+use Rattle.model.specs.Basics.{check, firstMet}
 use Rattle.model.specs.TableFile.{numberAt}
-use Rattle.model.specs.Batch.{areReports, numbersIn, bytesRefusal}
+use Rattle.model.specs.Batch.{areReports, answersCheck, numbersIn, bytesRefusal}
+use Rattle.model.proofs.Checks.{first-zero}
 use Rattle.model.proofs.Reports.{known-form, unknown-form, none-left}
 use Rattle.batch_bytes.proofs.NumberBytes.{numbers-long, form-in}
 
@@ -26,6 +28,13 @@ module _ (reports : List ℕ) (room : ℕ) where
   form-refused : length reports % 40 ≡ 0 → areReports (numbersIn reports) ≡ false → 19 ≡ bytesRefusal reports room
   unfolding bytesRefusal firstMet
   form-refused w e = rw (eq-eqb (length reports % 40) 0 w, e)
+
+  -- what is not refused has room for the answers
+  pub enough-room : bytesRefusal reports room ≡ 0 → 3 * (length reports / 40) ≤ room / 8
+  unfolding bytesRefusal
+  enough-room e =
+      let later = first-zero (check 19 (not (eqb (length reports % 40) 0 && areReports (numbersIn reports)))) (answersCheck (room / 8) (length reports / 40) ∷ []) (omega arith) e .1 in
+      ltb-false (room / 8) (3 * (length reports / 40)) (first-zero (answersCheck (room / 8) (length reports / 40)) [] (omega arith) later .0)
 
 pub looks : (reports : List ℕ) → length reports % 40 ≡ 0 → Looking reports 0
 looks reports w = record { whole = w; known = refl; left = omega arith }

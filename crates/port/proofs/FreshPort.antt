@@ -1,19 +1,16 @@
 -- The fresh port: its view, and the blank one.
-use mathlib.Core.Path.{_≡_, refl, ap, _∙_}
-use mathlib.Core.List.{List, [], _∷_, map}
+use mathlib.Core.Path.{_≡_, refl, ap}
+use mathlib.Core.List.{List, [], _∷_}
 use Prim.Native.Nat.{ℕ, zero, suc, _≤_}
-use native.Mathlib.Omega.{arith}
-use lib.ListN.{length, replicate, length-map}
+use lib.ListN.{replicate}
 use Rattle.model.specs.Basics.{entries}
 use Rattle.model.specs.Table.{blankTable, tableRefusal}
-use Rattle.model.specs.Port.{Account, blankAccount, fullAccount, fresh}
+use Rattle.model.specs.Port.{blankAccount, fresh}
 use Rattle.table.specs.declared.Table.{Table as TableRecord}
-use Rattle.table.specs.View.{viewLinks, viewTable, recordTable}
-use Rattle.table.proofs.Shape.{count-shown}
-use Rattle.port_policing.specs.Check.{viewAccount, recordAccount}
+use Rattle.table.specs.View.{viewTable, recordTable}
+use Rattle.port_policing.specs.Check.{recordAccount}
 use Rattle.port_policing.specs.Full.{fullAccounts}
-use Rattle.port_policing.proofs.Full.{none-yet}
-use Rattle.model.proofs.Entries.{entries-blank}
+use Rattle.port_policing.proofs.Full.{none-yet, lines-at-rest, accounts-at-rest}
 use Rattle.model.specs.Machine.{Frame}
 use Rattle.port_scheduler.specs.View.{viewQueue, viewQueues, viewMarks}
 use Rattle.port.specs.declared.Port.{Port as PortRecord}
@@ -46,25 +43,9 @@ resting-marks : (n : ℕ) → viewMarks (replicate n emptyQueue) ≡ replicate n
 resting-marks zero = refl
 resting-marks (suc n) = ap (λ (l : List ℕ). 0 ∷ l) (resting-marks n)
 
-entries-replicate {ℓ} : {A : Type ℓ} (b : A) (n m : ℕ) → entries b n (replicate m b) ≡ replicate n b
-unfolding entries
-entries-replicate b zero m = refl
-entries-replicate {A = A} b (suc n) zero = ap (λ (l : List A). b ∷ l) (entries-blank b n)
-entries-replicate {A = A} b (suc n) (suc m) = ap (λ (l : List A). b ∷ l) (entries-replicate b n m)
-
--- what was made of so many is shown as they were
-entries-back : (n : ℕ) (l : List Account) → length l ≤ n →
-    entries blankAccount (length l) (map viewAccount (entries (recordAccount blankAccount) n (map recordAccount l))) ≡ l
-unfolding entries
-entries-back n [] h = refl
-entries-back zero (a ∷ l) h = absurd (omega arith)
-entries-back (suc n) (a ∷ l) h = ap (λ (r : List Account). a ∷ r) (entries-back n l (omega arith))
-
 -- the fresh record is the model's fresh port
 pub fresh-shown : (t : TableRecord) → tableRefusal (viewTable t) ≡ 0 → viewPort (freshPort t) ≡ fresh (viewTable t)
 unfolding viewPort freshPort restingPort fresh viewTable
 fresh-shown t e =
     let few : t .count ≤ 256 = counts-pass t e .links-most in
-    let n : length (map fullAccount (viewLinks t)) ≡ t .count = length-map (viewLinks t) fullAccount ∙ count-shown t in
-    let accounts : entries blankAccount (t .count) (map viewAccount (fullAccounts t)) ≡ map fullAccount (viewLinks t) = rw n at (entries-back 256 (map fullAccount (viewLinks t)) (omega arith)) in
-    rw (resting-queues 8, resting-marks 8, entries-replicate {A = ℕ} 0 (t .lines) 24, accounts)
+    rw (resting-queues 8, resting-marks 8, lines-at-rest (t .lines), accounts-at-rest t few)

@@ -3,14 +3,14 @@ use mathlib.Core.Path.{_≡_, refl, sym, ap, _∙_}
 use mathlib.Core.List.{List}
 use Prim.Native.Nat.{ℕ, zero, suc}
 use Rattle.model.specs.Table.{Table}
-use Rattle.model.specs.TableFile.{Reading, readTable, Writing}
+use Rattle.model.specs.TableFile.{readTable}
 use Rattle.table_file.specs.declared.Reading.{Reading as ReadingRecord}
 use Rattle.table_file.specs.declared.Writing.{Writing as WritingRecord}
 use Rattle.table.specs.View.{viewTable}
 use Rattle.table_file.specs.Answers.{recordReading}
 use Rattle.table_file.specs.Answers.{Wrote}
 use Rattle.table_file.proofs.Back.{read-shown}
-use Rattle.table_c.specs.Copied.{copyOr, copyOf, Copied}
+use Rattle.fenuschia_c.specs.Copied.{copyOr, copyOf, Copied}
 
 refused-untouched : (n : ℕ) (t : Table) (output : List ℕ) → (n ≡ 0 → ⊥) → (copyOr n t output .refused ≡ n) × (copyOr n t output .output ≡ output)
 unfolding copyOr

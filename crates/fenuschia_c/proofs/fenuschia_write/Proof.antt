@@ -1,8 +1,8 @@
 -- A copy is what the reader and the writer answer.
 use borrow.Author.Needs.{needs}
-use Rattle.table_c.proofs.Copies.{refused-copied, written-copied}
-use Rattle.table_c.proofs.table_c_copy.Statement.{statement}
-use Rattle.table_c.proofs.table_c_copy.Tie as tie
+use Rattle.fenuschia_c.proofs.Copies.{refused-copied, written-copied}
+use Rattle.fenuschia_c.proofs.fenuschia_write.Statement.{statement}
+use Rattle.fenuschia_c.proofs.fenuschia_write.Tie as tie
 
 read-requires : tie.Need-read-requires
 read-requires c κs = search needs
@@ -21,5 +21,5 @@ returns-2 c =
     written-copied _ _ (c .before .before .before .before .before .before .before .read .result) (c .before .before .before .before .before .before .before .read .ensures)
     (c .before .before .before .before .before .if1 .left) _ (c .before .before .write .result) (c .before .before .write .ensures)
 
-pub table-c-copy-spec : {M : Type 1} → statement M
-table-c-copy-spec = tie.close (tie.spec read-requires returns write-requires same-length returns-2)
+pub fenuschia-write-spec : {M : Type 1} → statement M
+fenuschia-write-spec = tie.close (tie.spec read-requires returns write-requires same-length returns-2)
