@@ -20,11 +20,7 @@ pub(crate) fn run(t: Table, reports: &[u8], answers: &mut [u8], departures: &mut
     flat_table::put_table(t, &mut words);
     let mut credits = [0u64; 256];
     let mut since = [0u64; 256];
-    flat_record::put_accounts(
-        port_policing::full_accounts(t),
-        &mut credits,
-        &mut since,
-    );
+    flat_record::put_accounts(port_policing::full_accounts(t), &mut credits, &mut since);
     let mut frames = [0u64; LIST_ROOM];
     let mut heads = [0u64; 8];
     let mut counts = [0u64; 8];

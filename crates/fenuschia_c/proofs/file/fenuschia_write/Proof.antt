@@ -1,8 +1,8 @@
 -- A copy is what the reader and the writer answer.
 use borrow.Author.Needs.{needs}
 use Rattle.fenuschia_c.proofs.Copies.{refused-copied, written-copied}
-use Rattle.fenuschia_c.proofs.fenuschia_write.Statement.{statement}
-use Rattle.fenuschia_c.proofs.fenuschia_write.Tie as tie
+use Rattle.fenuschia_c.proofs.file.fenuschia_write.Statement.{statement}
+use Rattle.fenuschia_c.proofs.file.fenuschia_write.Tie as tie
 
 read-requires : tie.Need-read-requires
 read-requires c κs = search needs

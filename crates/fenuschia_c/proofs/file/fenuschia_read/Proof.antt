@@ -2,8 +2,8 @@
 use mathlib.Core.Path.{ap}
 use borrow.Author.Needs.{needs}
 use Rattle.table_file.specs.declared.Reading.{Reading}
-use Rattle.fenuschia_c.proofs.fenuschia_read.Statement.{statement}
-use Rattle.fenuschia_c.proofs.fenuschia_read.Tie as tie
+use Rattle.fenuschia_c.proofs.file.fenuschia_read.Statement.{statement}
+use Rattle.fenuschia_c.proofs.file.fenuschia_read.Tie as tie
 
 read-requires : tie.Need-read-requires
 read-requires c κs = search needs

@@ -3,8 +3,8 @@ use lib.ListN.{length}
 use Rattle.batch_bytes.proofs.Refusing.{enough-room}
 use Rattle.fenuschia_c.proofs.Reporting.{file-refused, lists-refused, passes, batch-given}
 use borrow.Author.Needs.{needs}
-use Rattle.fenuschia_c.proofs.fenuschia_batch.Statement.{statement}
-use Rattle.fenuschia_c.proofs.fenuschia_batch.Tie as tie
+use Rattle.fenuschia_c.proofs.batch.fenuschia_batch.Statement.{statement}
+use Rattle.fenuschia_c.proofs.batch.fenuschia_batch.Tie as tie
 
 -- src/lib.rt:45:9
 read-requires : tie.Need-read-requires
