@@ -1,7 +1,7 @@
 // Internal to the product: a batch of reports to a port in lent flat lists, each number in 8 little-endian bytes.
 use flat_batch::Ran;
 use flat_port::State;
-use little_endian::read8;
+use little_endian::read8_within;
 use little_endian::write8;
 use numbers::u32_as_u64;
 use port_refusals::Report;
@@ -29,7 +29,7 @@ pub fn refusal(reports: &[u8], room: usize) -> u32
     let n = reports.len() / 40;
     let mut i: usize = 0;
     while i < n {
-        if 1 < read8(reports, 40 * i) {
+        if 1 < read8_within(reports, 40 * i) {
             return 19;
         }
         i += 1;
@@ -45,14 +45,14 @@ fn report_at(reports: &[u8], at: usize) -> Report
     requires { ⌜ at + 40 ≤ length (now reports) ⌝ }
     ensures { λ r. ⌜ viewReport r ≡ reportIn (now (reports .entry)) at ⌝ }
 {
-    let form = read8(reports, at);
-    let time = read8(reports, at + 8);
+    let form = read8_within(reports, at);
+    let time = read8_within(reports, at + 8);
     if form == 0 {
         return Report::Wait(time);
     }
-    let line = read8(reports, at + 16);
-    let number = read8(reports, at + 24);
-    let bytes = read8(reports, at + 32);
+    let line = read8_within(reports, at + 16);
+    let number = read8_within(reports, at + 24);
+    let bytes = read8_within(reports, at + 32);
     Report::Frame(time, line, number, bytes)
 }
 

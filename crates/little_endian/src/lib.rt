@@ -48,6 +48,41 @@ pub fn read8(s: &[u8], at: usize) -> u64
     low + 4294967296 * high
 }
 
+// The same of a number that stands wholly before the end: no place is tested, so that it is one load.
+fn read1_within(s: &[u8], at: usize) -> u8
+    requires { ⌜ at + 1 ≤ length (now s) ⌝ }
+    ensures { λ r. ⌜ r ≡ numberAt at 1 (now (s .entry)) ⌝ }
+{
+    s[at]
+}
+
+fn read2_within(s: &[u8], at: usize) -> u16
+    requires { ⌜ at + 2 ≤ length (now s) ⌝ }
+    ensures { λ r. ⌜ r ≡ numberAt at 2 (now (s .entry)) ⌝ }
+{
+    let low = read1_within(s, at) as u16;
+    let high = read1_within(s, at + 1) as u16;
+    low + 256 * high
+}
+
+fn read4_within(s: &[u8], at: usize) -> u32
+    requires { ⌜ at + 4 ≤ length (now s) ⌝ }
+    ensures { λ r. ⌜ r ≡ numberAt at 4 (now (s .entry)) ⌝ }
+{
+    let low = read2_within(s, at) as u32;
+    let high = read2_within(s, at + 2) as u32;
+    low + 65536 * high
+}
+
+pub fn read8_within(s: &[u8], at: usize) -> u64
+    requires { ⌜ at + 8 ≤ length (now s) ⌝ }
+    ensures { λ r. ⌜ r ≡ numberAt at 8 (now (s .entry)) ⌝ }
+{
+    let low = read4_within(s, at) as u64;
+    let high = read4_within(s, at + 4) as u64;
+    low + 4294967296 * high
+}
+
 pub fn write1(s: &mut [u8], at: usize, x: u8)
     requires { ⌜ at + 1 ≤ length (now s) ⌝ }
     ensures { λ _. ⌜ now (s .exit) ≡ laid at (toBytes 1 x) (now (s .entry)) ⌝ }

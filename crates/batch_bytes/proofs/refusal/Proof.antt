@@ -20,16 +20,16 @@ loop-holds : tie.Need-loop-holds Inv-loop μ-loop
 loop-holds c = looks (c .before .before .args .reports .now) (c .if1 .left)
 
 -- src/lib.rt:32:31
-mul-read8 : tie.Need-mul-read8 Inv-loop μ-loop
-mul-read8 c = omega (arith, c .before .loop .inv .left)
+mul-read8-within : tie.Need-mul-read8-within Inv-loop μ-loop
+mul-read8-within c = omega (arith, c .before .loop .inv .left)
 
 -- src/lib.rt:32:16
-read8-requires : tie.Need-read8-requires Inv-loop μ-loop
-read8-requires c κs = search needs
+read8-within-requires : tie.Need-read8-within-requires Inv-loop μ-loop
+read8-within-requires c κs = search needs
 
 -- src/lib.rt:33:13
 returns-2 : tie.Need-returns-2 Inv-loop μ-loop
-returns-2 c = unknown-refused (c .before .before .before .loop .inv) (c .before .before .loop-test .taken) (c .before .read8 .ensures) (c .before .before .before .before .before .before .args .room) (c .if2 .taken)
+returns-2 c = unknown-refused (c .before .before .before .loop .inv) (c .before .before .loop-test .taken) (c .before .read8-within .ensures) (c .before .before .before .before .before .before .args .room) (c .if2 .taken)
 
 -- src/lib.rt:35:9
 add-i : tie.Need-add-i Inv-loop μ-loop
@@ -41,7 +41,7 @@ loop-less c = search needs
 
 -- src/lib.rt:31:5
 loop-again : tie.Need-loop-again Inv-loop μ-loop
-loop-again c = looks-on (c .before .before .before .loop .inv) (c .before .before .loop-test .taken) (c .before .read8 .ensures) (omega (arith, c .if2 .left))
+loop-again c = looks-on (c .before .before .before .loop .inv) (c .before .before .loop-test .taken) (c .before .read8-within .ensures) (omega (arith, c .if2 .left))
 
 -- src/lib.rt:37:19
 mul-if3 : tie.Need-mul-if3 Inv-loop μ-loop
@@ -63,8 +63,8 @@ refusal-spec =
     μ-loop
     returns
     loop-holds
-    mul-read8
-    read8-requires
+    mul-read8-within
+    read8-within-requires
     returns-2
     add-i
     loop-less
