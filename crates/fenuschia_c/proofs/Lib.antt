@@ -1,3 +1,4 @@
 pub mod Copies
 pub mod FreshLists
 pub mod Reporting
+pub mod Sizes

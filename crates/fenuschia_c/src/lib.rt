@@ -2,3 +2,4 @@
 mod batch;
 mod file;
 mod fresh;
+mod sizing;
