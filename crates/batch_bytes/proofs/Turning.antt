@@ -23,7 +23,7 @@ use Rattle.flat_port.specs.declared.Reported.{Reported}
 use Rattle.flat_port.specs.Lists.{Lists, queuesIn, viewState, Stands}
 use Rattle.flat_port.specs.Contracts.{Reports, stepOf}
 use Rattle.flat_port.proofs.Standing.{few-held}
-use Rattle.flat_batch.specs.Contracts.{batchOf, Ends}
+use Rattle.flat_batch.specs.Contracts.{batchOf, Still, Ends}
 use Rattle.flat_batch.proofs.Turning.{further}
 use Rattle.flat_batch.proofs.Progress.{Progress, at-start, at-end, left, one-more}
 use Rattle.batch_bytes.specs.Contracts.{reportIn, BytesAnswers}
@@ -156,7 +156,7 @@ module _ {t : Table} {l₀ : Lists} {whole : Batched} {reports answers₀ list�
         rw (flatMap-more departureNumbers (k .so-far) entry)
         (bytes-over (flatMap departureNumbers (k .so-far)) (departureNumbers entry) list₀ far (k .list-is) (f ∙ rw d))
 
-    pub turns : {flag : Bool} → ((a .refused ≡ 0 → ⊥) → accepted ≡ false → flag ≡ false) → {n m : ℕ} → n ≡ a .refused → m ≡ a .verdict → {answers' list' : List ℕ} →
+    pub turns : {flag : Bool} → Still accepted (a .refused) flag → {n m : ℕ} → n ≡ a .refused → m ≡ a .verdict → {answers' list' : List ℕ} →
         answers' ≡ laid (24 * i) (bytesOf (n ∷ m ∷ a .frames ∷ [])) answers →
         list' ≡ laid (24 * written) (bytesOf (take (3 * a .frames) (part ++ drop most room))) list → length answers' ≡ length answers → length list' ≡ length list →
         Turning t l₀ whole reports answers₀ list₀ (a .state) l' (i + 1) (written + a .frames) flag answers' list' (part ++ drop most room)
