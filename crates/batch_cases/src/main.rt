@@ -104,7 +104,7 @@ fn in_bytes(
 ) -> u32 {
     let n = least(a, answers.len());
     let k = least(d, departures.len());
-    fenuschia_c::fenuschia_batch(file, reports, &mut answers[0..n], &mut departures[0..k])
+    fenuschia_c::batch::fenuschia_batch(file, reports, &mut answers[0..n], &mut departures[0..k])
 }
 
 fn show(answers: &[u8], departures: &[u8], many: usize) {
