@@ -25,15 +25,14 @@ fn report_at(reports: &[u64], at: usize) -> Report
     requires { ⌜ at + 5 ≤ length (now reports) ⌝ }
     ensures { λ r. ⌜ viewReport r ≡ reportAt (now (reports .entry)) at ⌝ }
 {
+    let time = reports[at + 1];
     if reports[at] == 0 {
-        return Report::Wait(reports[at + 1]);
+        return Report::Wait(time);
     }
-    Report::Frame(
-        reports[at + 1],
-        reports[at + 2],
-        reports[at + 3],
-        reports[at + 4],
-    )
+    let line = reports[at + 2];
+    let number = reports[at + 3];
+    let length = reports[at + 4];
+    Report::Frame(time, line, number, length)
 }
 
 // Whether any was accepted, with one report more.

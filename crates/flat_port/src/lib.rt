@@ -54,7 +54,7 @@ pub fn report(
     if refused != 0 {
         return Reported {
             refused,
-            verdict: 0,
+            verdict: 0, // none
             frames: 0,
             state,
         };
