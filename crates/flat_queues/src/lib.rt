@@ -1,4 +1,4 @@
-// Queues of frames as rings in lent flat lists: 256 slots a ring, three numbers a slot.
+// Internal to the product: queues of frames as rings in lent flat lists: 256 slots a ring, three numbers a slot.
 // heads: the place of the oldest frame of each ring, modulo 256. counts: how many frames each ring holds.
 ghost use mathlib.Core.Path.{_≡_};
 ghost use mathlib.Core.List.{List};
