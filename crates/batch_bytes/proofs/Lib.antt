@@ -1,3 +1,1 @@
-pub mod NumberBytes
-pub mod Refusing
 pub mod Turning

@@ -26,8 +26,9 @@ use Rattle.flat_port.proofs.Standing.{few-held}
 use Rattle.flat_batch.specs.Contracts.{batchOf, Still, Ends}
 use Rattle.flat_batch.proofs.Turning.{further}
 use Rattle.flat_batch.proofs.Progress.{Progress, at-start, at-end, left, one-more}
-use Rattle.batch_bytes.specs.Contracts.{reportIn, BytesAnswers}
-use Rattle.batch_bytes.proofs.NumberBytes.{numbers-long, report-in, bytes-over}
+use Rattle.report_bytes.specs.Reports.{reportIn}
+use Rattle.report_bytes.proofs.NumberBytes.{numbers-long, report-in, bytes-over}
+use Rattle.batch_bytes.specs.Contracts.{BytesAnswers}
 
 -- ---- a list cut to what all queues can fill gives the same
 module _ {t : Table} {s : State} {l : Lists} (k : Stands t s l) (r : Report) (cut whole : List ℕ) (h : length cut ≡ min 6144 (length whole)) where

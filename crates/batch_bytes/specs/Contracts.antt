@@ -1,14 +1,8 @@
--- What a batch in bytes asks and promises.
+-- What a batch in bytes promises.
 use mathlib.Core.Path.{_≡_}
 use mathlib.Core.List.{List, flatMap}
-use Prim.Native.Nat.{ℕ, _+_}
-use Rattle.model.specs.TableFile.{numberAt}
-use Rattle.model.specs.Report.{Report}
-use Rattle.model.specs.Batch.{Batched, reportOf, bytesOf, answerNumbers, departureNumbers, over}
-
--- the report whose five numbers stand from a place on, 8 bytes each
-abbrev pub reportIn : List ℕ → ℕ → Report
-reportIn bytes at = reportOf (numberAt at 8 bytes) (numberAt (at + 8) 8 bytes) (numberAt (at + 16) 8 bytes) (numberAt (at + 24) 8 bytes) (numberAt (at + 32) 8 bytes)
+use Prim.Native.Nat.{ℕ}
+use Rattle.model.specs.Batch.{Batched, bytesOf, answerNumbers, departureNumbers, over}
 
 -- answers and departures at the start of the two runs of bytes, and all behind them as found
 pub record BytesAnswers (b : Batched) (answers answers' list list' : List ℕ) : Type 0 where

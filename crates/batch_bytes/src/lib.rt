@@ -1,81 +1,20 @@
 // Internal to the product: a batch of reports to a port in lent flat lists, each number in 8 little-endian bytes.
 use flat_batch::Ran;
 use flat_port::State;
-use little_endian::read8_within;
-use little_endian::write8;
 use numbers::u32_as_u64;
-use port_refusals::Report;
+use report_bytes::put_departures;
+use report_bytes::put_three;
+use report_bytes::report_at;
 use units::LIST_ROOM;
 ghost use mathlib.Core.Path.{_≡_};
-ghost use mathlib.Core.List.{[], _∷_};
-ghost use Prim.Native.Nat.{_+_, _*_, _/_, _≤_, min};
-ghost use lib.ListN.{length, take};
-ghost use Rattle.model.specs.Batch.{reportsIn, numbersIn, bytesOf, bytesRefusal};
-ghost use Rattle.little_endian.specs.Output.{laid};
-ghost use Rattle.port_refusals.specs.Reports.{viewReport};
+ghost use Prim.Native.Nat.{_*_, _/_, _≤_, min};
+ghost use lib.ListN.{length};
+ghost use Rattle.model.specs.Batch.{reportsIn, numbersIn};
 ghost use Rattle.flat_table.specs.View.{viewWords};
 ghost use Rattle.flat_port.specs.Lists.{lists, Stands};
 ghost use Rattle.flat_port.specs.Contracts.{Worded};
 ghost use Rattle.flat_batch.specs.Contracts.{batchOf, Ends};
-ghost use Rattle.batch_bytes.specs.Contracts.{reportIn, BytesAnswers};
-
-// 19 and 20: no multiple of 40 bytes, or an unknown form anywhere; then room for fewer than three numbers a report.
-pub fn refusal(reports: &[u8], room: usize) -> u32
-    ensures { λ r. ⌜ r ≡ bytesRefusal (now (reports .entry)) room ⌝ }
-{
-    if reports.len() % 40 != 0 {
-        return 19;
-    }
-    let n = reports.len() / 40;
-    let mut i: usize = 0;
-    while i < n {
-        if 1 < read8_within(reports, 40 * i) {
-            return 19;
-        }
-        i += 1;
-    }
-    if room / 8 < 3 * n {
-        return 20;
-    }
-    0
-}
-
-// The report whose five numbers stand from a place on.
-fn report_at(reports: &[u8], at: usize) -> Report
-    requires { ⌜ at + 40 ≤ length (now reports) ⌝ }
-    ensures { λ r. ⌜ viewReport r ≡ reportIn (now (reports .entry)) at ⌝ }
-{
-    let form = read8_within(reports, at);
-    let time = read8_within(reports, at + 8);
-    if form == 0 {
-        return Report::Wait(time);
-    }
-    let line = read8_within(reports, at + 16);
-    let number = read8_within(reports, at + 24);
-    let bytes = read8_within(reports, at + 32);
-    Report::Frame(time, line, number, bytes)
-}
-
-fn put_three(out: &mut [u8], at: usize, a: u64, b: u64, c: u64)
-    requires { ⌜ at + 24 ≤ length (now out) ⌝ }
-    ensures { λ _. ⌜ now (out .exit) ≡ laid at (bytesOf (a ∷ b ∷ c ∷ [])) (now (out .entry)) ⌝ }
-{
-    write8(out, at, a);
-    write8(out, at + 8, b);
-    write8(out, at + 16, c);
-}
-
-// The first n numbers.
-fn put_departures(from: &[u64], n: usize, out: &mut [u8], at: usize)
-    requires { ⌜ (n ≤ length (now from)) × (at + 8 * n ≤ length (now out)) ⌝ }
-    ensures { λ _. ⌜ now (out .exit) ≡ laid at (bytesOf (take n (now (from .entry)))) (now (out .entry)) ⌝ }
-{
-    let mut i: usize = 0;
-    while i < n {
-        write8(out, at + 8 * i, from[i]);
-        i += 1;
-    }
-}
+ghost use Rattle.batch_bytes.specs.Contracts.{BytesAnswers};
 
 // What a report is lent: no more than all queues hold goes into it.
 fn lent(left: usize) -> usize

@@ -1,4 +1,3 @@
 pub mod Copies
-pub mod FreshLists
 pub mod Reporting
 pub mod Sizes

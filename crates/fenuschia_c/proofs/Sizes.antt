@@ -23,7 +23,7 @@ use Rattle.table_file.proofs.Back.{read-shown}
 use Rattle.bounds.specs.declared.Bounds.{Bounds}
 use Rattle.bounds.specs.Answer.{recordBounds}
 use Rattle.flat_port.proofs.Standing.{refused-first, refused-last}
-use Rattle.batch_bytes.proofs.NumberBytes.{bytes-long, bytes-joined}
+use Rattle.report_bytes.proofs.NumberBytes.{bytes-long, bytes-joined}
 use Rattle.fenuschia_c.specs.Sized.{sizingNumbers, sizingOr, sizingFile, Sized}
 
 -- ---- what is written

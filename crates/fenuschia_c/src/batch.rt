@@ -1,5 +1,4 @@
 // A batch of reports to the fresh port of a table file.
-use crate::fresh;
 ghost use Rattle.model.specs.Batch.{batchFile};
 ghost use Rattle.fenuschia_c.specs.Reported.{Reported};
 
@@ -15,14 +14,15 @@ pub extern "C" fn fenuschia_batch(
     ensures { λ r. ⌜ Reported (batchFile (now (file .entry)) (now (reports .entry)) (now (answers .entry)) (now (departures .entry))) r (now (answers .exit)) (now (departures .exit)) ⌝ }
 {
     let reading = table_file::read(file);
-    if reading.refused != 0 {
-        return reading.refused;
+    let unread = reading.refused;
+    let refused = report_bytes::refusal(reports, answers.len());
+    if unread != 0 {
+        return unread;
     }
-    let refused = batch_bytes::refusal(reports, answers.len());
     if refused != 0 {
         return refused;
     }
     let t = reading.table;
-    fresh::run(t, reports, answers, departures);
+    fresh_batch::run(t, reports, answers, departures);
     0
 }

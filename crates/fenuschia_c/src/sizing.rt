@@ -31,10 +31,12 @@ pub extern "C" fn fenuschia_sizing(file: &[u8], out: &mut [u8]) -> u32
     }
     let t = reading.table;
     let b = bounds::bounds_of(t);
-    if b.refused != 0 {
-        return b.refused;
+    let unbounded = b.refused;
+    let room = out.len();
+    if unbounded != 0 {
+        return unbounded;
     }
-    if out.len() < 256 {
+    if room < 256 {
         return 9;
     }
     let bounds = b.bounds;

@@ -1,5 +1,7 @@
 // Internal to the product: little-endian numbers in a run of bytes. What stands behind its end counts as 0; a place
 // that is behind it is answered first, so that no sum wraps.
+pub mod within;
+
 ghost use mathlib.Core.Path.{_≡_};
 ghost use Prim.Native.Nat.{_+_, _≤_};
 ghost use lib.ListN.{length};
@@ -45,41 +47,6 @@ pub fn read8(s: &[u8], at: usize) -> u64
     }
     let low = read4(s, at) as u64;
     let high = read4(s, at + 4) as u64;
-    low + 4294967296 * high
-}
-
-// The same of a number that stands wholly before the end: no place is tested, so that it is one load.
-fn read1_within(s: &[u8], at: usize) -> u8
-    requires { ⌜ at + 1 ≤ length (now s) ⌝ }
-    ensures { λ r. ⌜ r ≡ numberAt at 1 (now (s .entry)) ⌝ }
-{
-    s[at]
-}
-
-fn read2_within(s: &[u8], at: usize) -> u16
-    requires { ⌜ at + 2 ≤ length (now s) ⌝ }
-    ensures { λ r. ⌜ r ≡ numberAt at 2 (now (s .entry)) ⌝ }
-{
-    let low = read1_within(s, at) as u16;
-    let high = read1_within(s, at + 1) as u16;
-    low + 256 * high
-}
-
-fn read4_within(s: &[u8], at: usize) -> u32
-    requires { ⌜ at + 4 ≤ length (now s) ⌝ }
-    ensures { λ r. ⌜ r ≡ numberAt at 4 (now (s .entry)) ⌝ }
-{
-    let low = read2_within(s, at) as u32;
-    let high = read2_within(s, at + 2) as u32;
-    low + 65536 * high
-}
-
-pub fn read8_within(s: &[u8], at: usize) -> u64
-    requires { ⌜ at + 8 ≤ length (now s) ⌝ }
-    ensures { λ r. ⌜ r ≡ numberAt at 8 (now (s .entry)) ⌝ }
-{
-    let low = read4_within(s, at) as u64;
-    let high = read4_within(s, at + 4) as u64;
     low + 4294967296 * high
 }
 

@@ -19,137 +19,104 @@ Inv-loop words numbers frames₀ heads₀ counts₀ held₀ marks₀ ticks₀ cr
 abbrev μ-loop : tie.MeasureT-loop
 μ-loop words numbers frames₀ heads₀ counts₀ held₀ marks₀ ticks₀ credits₀ since₀ reports answers₀ list₀ n whole room₀ state₀ written₀ accepted₀ i₀ frames heads counts held marks ticks credits since answers list room state written accepted i = n - i
 
--- src/lib.rt:117:5
 loop-holds : tie.Need-loop-holds Inv-loop μ-loop
 loop-holds c =
     let s = c .before .before .before .before .before .before .before .before .before .before .before .before .before in
     starts (s .args .reports .now) (s .args .answers .now) (s .args .list .now) (replicate 6144 0) (s .pre .1) (s .pre .2) (length-replicate {A = ℕ} 6144 0) (omega arith) (omega arith)
 
--- src/lib.rt:118:41
 mul-report-at : tie.Need-mul-report-at Inv-loop μ-loop
 mul-report-at c = omega (arith, c .before .loop .inv .reports-short, c .before .loop .inv .some-left)
 
--- src/lib.rt:118:13
 report-at-requires : tie.Need-report-at-requires Inv-loop μ-loop
 report-at-requires c κs = omega (arith, c .before .loop .inv .some-left)
 
--- src/lib.rt:119:33
 mul-lent : tie.Need-mul-lent Inv-loop μ-loop
 mul-lent c = omega (arith, c .before .before .loop .inv .within, c .before .before .loop .inv .list-short)
 
--- src/lib.rt:119:25
 sub-lent : tie.Need-sub-lent Inv-loop μ-loop
 sub-lent c = omega (arith, c .before .before .loop .inv .within)
 
--- src/lib.rt:119:13
 lent-requires : tie.Need-lent-requires Inv-loop μ-loop
 lent-requires c κs = search needs
 
--- src/lib.rt:133:13
 array-borrow-prefix-room : tie.Need-array-borrow-prefix-room Inv-loop μ-loop
 array-borrow-prefix-room c = omega (arith, c .before .before .before .before .before .before .before .before .before .before .before .loop .inv .room-long, c .before .before .before .before .before .before .before .before .lent .ensures)
 
--- src/lib.rt:133:13
 slice-aggregate-report : tie.Need-slice-aggregate-report Inv-loop μ-loop
 slice-aggregate-report c = sym (length-take-le _ _ (omega (arith, c .before .before .before .before .before .before .before .before .before .before .before .before .loop .inv .room-long, c .before .before .before .before .before .before .before .before .before .lent .ensures)))
 
--- src/lib.rt:120:13
 report-requires : tie.Need-report-requires Inv-loop μ-loop
 report-requires c κs = (c .before .before .before .before .before .before .before .before .before .before .before .before .before .before .before .before .before .before .before .before .before .before .before .before .before .before .pre .0, c .before .before .before .before .before .before .before .before .before .before .before .before .loop .inv .progress .stands)
 
--- src/lib.rt:137:9
 still-requires : tie.Need-still-requires Inv-loop μ-loop
 still-requires c κs = search needs
 
--- src/lib.rt:140:13
 mul-put-three : tie.Need-mul-put-three Inv-loop μ-loop
 mul-put-three c = omega (arith, c .before .before .before .before .before .before .before .before .before .before .before .before .before .before .before .before .before .before .before .before .before .before .before .before .before .before .before .before .before .before .before .before .loop-test .taken, c .before .before .before .before .before .before .before .before .before .before .before .before .before .before .before .before .before .before .before .before .before .before .before .before .before .before .before .before .before .before .before .before .before .loop .inv .reports-short)
 
--- src/lib.rt:141:13
 u32-as-u64-requires : tie.Need-u32-as-u64-requires Inv-loop μ-loop
 u32-as-u64-requires c κs = search needs
 
--- src/lib.rt:142:13
 u32-as-u64-requires-2 : tie.Need-u32-as-u64-requires-2 Inv-loop μ-loop
 u32-as-u64-requires-2 c κs = search needs
 
--- src/lib.rt:138:9
 put-three-requires : tie.Need-put-three-requires Inv-loop μ-loop
 put-three-requires c κs = omega (arith, c .before .before .before .before .before .before .before .before .before .before .before .before .before .before .before .before .before .before .before .before .before .before .before .before .before .before .before .before .before .before .before .before .before .before .loop-test .taken, c .before .before .before .before .before .before .before .before .before .before .before .before .before .before .before .before .before .before .before .before .before .before .before .before .before .before .before .before .before .before .before .before .before .before .before .loop .inv .enough, c .before .before .before .before .before .before .before .before .before .before .before .before .before .before .before .before .before .before .before .before .before .before .before .before .before .before .before .before .before .before .before .before .before .before .before .loop .inv .answers-long)
 
--- src/lib.rt:146:24
 slice-aggregate-put-departures : tie.Need-slice-aggregate-put-departures Inv-loop μ-loop
 slice-aggregate-put-departures c = sym (room-after (c .before .before .before .before .before .before .before .before .before .before .before .before .before .before .before .before .before .before .before .before .before .before .before .before .before .before .before .before .before .before .before .before .before .before .before .before .before .before .before .loop .inv) (omega (arith, c .before .before .before .before .before .before .before .before .before .before .before .before .before .before .before .before .before .before .before .before .before .before .before .before .before .before .before .before .before .before .before .before .before .before .before .before .before .before .loop-test .taken)) (c .before .before .before .before .before .before .before .before .before .before .before .before .before .before .before .before .before .before .before .before .before .before .before .before .before .before .before .before .before .before .before .before .before .before .before .before .before .report-at .ensures) (c .before .before .before .before .before .before .before .before .before .before .before .before .before .before .before .before .before .before .before .before .before .before .before .before .before .before .before .before .before .before .before .before .before .before .before .before .lent .ensures) (c .before .before .before .before .before .before .before .before .before .before .before .before .before .before .before .before .before .before .before .before .before .before .before .before .before .before .report .ensures) (omega (arith, c .before .before .before .before .before .before .before .before .before .room2 .given)))
 
--- src/lib.rt:146:31
 mul-put-departures : tie.Need-mul-put-departures Inv-loop μ-loop
 mul-put-departures c = omega (arith, few (c .before .before .before .before .before .before .before .before .before .before .before .before .before .before .before .before .before .before .before .before .before .before .before .before .before .before .before .before .before .before .before .before .before .before .before .before .before .before .before .loop .inv) (omega (arith, c .before .before .before .before .before .before .before .before .before .before .before .before .before .before .before .before .before .before .before .before .before .before .before .before .before .before .before .before .before .before .before .before .before .before .before .before .before .before .loop-test .taken)) (c .before .before .before .before .before .before .before .before .before .before .before .before .before .before .before .before .before .before .before .before .before .before .before .before .before .before .before .before .before .before .before .before .before .before .before .before .before .report-at .ensures) (c .before .before .before .before .before .before .before .before .before .before .before .before .before .before .before .before .before .before .before .before .before .before .before .before .before .before .before .before .before .before .before .before .before .before .before .before .lent .ensures) (c .before .before .before .before .before .before .before .before .before .before .before .before .before .before .before .before .before .before .before .before .before .before .before .before .before .before .report .ensures) (omega (arith, c .before .before .before .before .before .before .before .before .before .room2 .given)), c .before .before .before .before .before .before .before .before .before .before .before .before .before .before .before .before .before .before .before .before .before .before .before .before .before .before .before .before .before .before .before .before .before .before .before .before .lent .ensures)
 
--- src/lib.rt:146:48
 mul-put-departures-2 : tie.Need-mul-put-departures-2 Inv-loop μ-loop
 mul-put-departures-2 c = omega (arith, c .before .before .before .before .before .before .before .before .before .before .before .before .before .before .before .before .before .before .before .before .before .before .before .before .before .before .before .before .before .before .before .before .before .before .before .before .before .before .before .before .loop .inv .within, c .before .before .before .before .before .before .before .before .before .before .before .before .before .before .before .before .before .before .before .before .before .before .before .before .before .before .before .before .before .before .before .before .before .before .before .before .before .before .before .before .loop .inv .list-short)
 
--- src/lib.rt:146:9
 put-departures-requires : tie.Need-put-departures-requires Inv-loop μ-loop
 put-departures-requires c κs = (rw (room-after (c .before .before .before .before .before .before .before .before .before .before .before .before .before .before .before .before .before .before .before .before .before .before .before .before .before .before .before .before .before .before .before .before .before .before .before .before .before .before .before .before .loop .inv) (omega (arith, c .before .before .before .before .before .before .before .before .before .before .before .before .before .before .before .before .before .before .before .before .before .before .before .before .before .before .before .before .before .before .before .before .before .before .before .before .before .before .before .loop-test .taken)) (c .before .before .before .before .before .before .before .before .before .before .before .before .before .before .before .before .before .before .before .before .before .before .before .before .before .before .before .before .before .before .before .before .before .before .before .before .before .before .report-at .ensures) (c .before .before .before .before .before .before .before .before .before .before .before .before .before .before .before .before .before .before .before .before .before .before .before .before .before .before .before .before .before .before .before .before .before .before .before .before .before .lent .ensures) (c .before .before .before .before .before .before .before .before .before .before .before .before .before .before .before .before .before .before .before .before .before .before .before .before .before .before .before .report .ensures) (omega (arith, c .before .before .before .before .before .before .before .before .before .before .room2 .given))) (omega (arith, few (c .before .before .before .before .before .before .before .before .before .before .before .before .before .before .before .before .before .before .before .before .before .before .before .before .before .before .before .before .before .before .before .before .before .before .before .before .before .before .before .before .loop .inv) (omega (arith, c .before .before .before .before .before .before .before .before .before .before .before .before .before .before .before .before .before .before .before .before .before .before .before .before .before .before .before .before .before .before .before .before .before .before .before .before .before .before .before .loop-test .taken)) (c .before .before .before .before .before .before .before .before .before .before .before .before .before .before .before .before .before .before .before .before .before .before .before .before .before .before .before .before .before .before .before .before .before .before .before .before .before .before .report-at .ensures) (c .before .before .before .before .before .before .before .before .before .before .before .before .before .before .before .before .before .before .before .before .before .before .before .before .before .before .before .before .before .before .before .before .before .before .before .before .before .lent .ensures) (c .before .before .before .before .before .before .before .before .before .before .before .before .before .before .before .before .before .before .before .before .before .before .before .before .before .before .before .report .ensures) (omega (arith, c .before .before .before .before .before .before .before .before .before .before .room2 .given)), c .before .before .before .before .before .before .before .before .before .before .before .before .before .before .before .before .before .before .before .before .before .before .before .before .before .before .before .before .before .before .before .before .before .before .before .before .before .lent .ensures)), omega (arith, within-after (c .before .before .before .before .before .before .before .before .before .before .before .before .before .before .before .before .before .before .before .before .before .before .before .before .before .before .before .before .before .before .before .before .before .before .before .before .before .before .before .before .loop .inv) (omega (arith, c .before .before .before .before .before .before .before .before .before .before .before .before .before .before .before .before .before .before .before .before .before .before .before .before .before .before .before .before .before .before .before .before .before .before .before .before .before .before .before .loop-test .taken)) (c .before .before .before .before .before .before .before .before .before .before .before .before .before .before .before .before .before .before .before .before .before .before .before .before .before .before .before .before .before .before .before .before .before .before .before .before .before .before .report-at .ensures) (c .before .before .before .before .before .before .before .before .before .before .before .before .before .before .before .before .before .before .before .before .before .before .before .before .before .before .before .before .before .before .before .before .before .before .before .before .before .lent .ensures) (c .before .before .before .before .before .before .before .before .before .before .before .before .before .before .before .before .before .before .before .before .before .before .before .before .before .before .before .report .ensures) (omega (arith, c .before .before .before .before .before .before .before .before .before .before .room2 .given)), c .before .before .before .before .before .before .before .before .before .before .before .before .before .before .before .before .before .before .before .before .before .before .before .before .before .before .before .before .before .before .before .before .before .before .before .before .before .before .before .before .loop .inv .list-long))
 
--- src/lib.rt:147:9
 add-written : tie.Need-add-written Inv-loop μ-loop
 add-written c = omega (arith, within-after (c .before .before .before .before .before .before .before .before .before .before .before .before .before .before .before .before .before .before .before .before .before .before .before .before .before .before .before .before .before .before .before .before .before .before .before .before .before .before .before .before .before .before .before .loop .inv) (omega (arith, c .before .before .before .before .before .before .before .before .before .before .before .before .before .before .before .before .before .before .before .before .before .before .before .before .before .before .before .before .before .before .before .before .before .before .before .before .before .before .before .before .before .before .loop-test .taken)) (c .before .before .before .before .before .before .before .before .before .before .before .before .before .before .before .before .before .before .before .before .before .before .before .before .before .before .before .before .before .before .before .before .before .before .before .before .before .before .before .before .before .report-at .ensures) (c .before .before .before .before .before .before .before .before .before .before .before .before .before .before .before .before .before .before .before .before .before .before .before .before .before .before .before .before .before .before .before .before .before .before .before .before .before .before .before .before .lent .ensures) (c .before .before .before .before .before .before .before .before .before .before .before .before .before .before .before .before .before .before .before .before .before .before .before .before .before .before .before .before .before .before .report .ensures) (omega (arith, c .before .before .before .before .before .before .before .before .before .before .before .before .before .room2 .given)), c .before .before .before .before .before .before .before .before .before .before .before .before .before .before .before .before .before .before .before .before .before .before .before .before .before .before .before .before .before .before .before .before .before .before .before .before .before .before .before .before .before .before .before .loop .inv .list-short)
 
--- src/lib.rt:148:9
 add-i : tie.Need-add-i Inv-loop μ-loop
 add-i c = omega (arith, c .before .before .before .before .before .before .before .before .before .before .before .before .before .before .before .before .before .before .before .before .before .before .before .before .before .before .before .before .before .before .before .before .before .before .before .before .before .before .before .before .before .before .loop-test .taken, c .before .before .before .before .before .before .before .before .before .before .before .before .before .before .before .before .before .before .before .before .before .before .before .before .before .before .before .before .before .before .before .before .before .before .before .before .before .before .before .before .before .before .before .loop .inv .reports-short)
 
--- src/lib.rt:117:5
 loop-less : tie.Need-loop-less Inv-loop μ-loop
 loop-less c = omega (arith, c .before .before .before .before .before .before .before .before .before .before .before .before .before .before .before .before .before .before .before .before .before .before .before .before .before .before .before .before .before .before .before .before .before .before .before .before .before .before .before .before .before .before .loop-test .taken)
 
--- src/lib.rt:117:5
 loop-again : tie.Need-loop-again Inv-loop μ-loop
 loop-again c = turns (c .before .before .before .before .before .before .before .before .before .before .before .before .before .before .before .before .before .before .before .before .before .before .before .before .before .before .before .before .before .before .before .before .before .before .before .before .before .before .before .before .before .before .before .loop .inv) (omega (arith, c .before .before .before .before .before .before .before .before .before .before .before .before .before .before .before .before .before .before .before .before .before .before .before .before .before .before .before .before .before .before .before .before .before .before .before .before .before .before .before .before .before .before .loop-test .taken)) (c .before .before .before .before .before .before .before .before .before .before .before .before .before .before .before .before .before .before .before .before .before .before .before .before .before .before .before .before .before .before .before .before .before .before .before .before .before .before .before .before .before .report-at .ensures) (c .before .before .before .before .before .before .before .before .before .before .before .before .before .before .before .before .before .before .before .before .before .before .before .before .before .before .before .before .before .before .before .before .before .before .before .before .before .before .before .before .lent .ensures) (c .before .before .before .before .before .before .before .before .before .before .before .before .before .before .before .before .before .before .before .before .before .before .before .before .before .before .before .before .before .before .report .ensures) (omega (arith, c .before .before .before .before .before .before .before .before .before .before .before .before .before .room2 .given)) (c .before .before .before .before .before .before .before .before .before .before .before .still .ensures) (c .before .before .before .before .before .before .before .before .before .u32-as-u64 .ensures .0) (c .before .before .before .before .before .before .before .before .u32-as-u642 .ensures .0) (c .before .before .before .before .before .before .before .put-three .ensures) (c .before .before .put-departures .ensures) (omega (arith, c .before .before .before .before .before .before .answers .given)) (omega (arith, c .before .list .given))
 
--- src/lib.rt:91:1
 same-length : tie.Need-same-length Inv-loop μ-loop
 same-length c = omega (arith, c .before .before .before .before .before .before .before .before .before .before .before .before .before .before .before .pre .1 .sized .flat .frames-are, c .before .loop .inv .progress .stands .sized .flat .frames-are)
 
--- src/lib.rt:91:1
 same-length-2 : tie.Need-same-length-2 Inv-loop μ-loop
 same-length-2 c = omega (arith, c .before .before .before .before .before .before .before .before .before .before .before .before .before .before .before .pre .1 .sized .flat .heads-are, c .before .loop .inv .progress .stands .sized .flat .heads-are)
 
--- src/lib.rt:91:1
 same-length-3 : tie.Need-same-length-3 Inv-loop μ-loop
 same-length-3 c = omega (arith, c .before .before .before .before .before .before .before .before .before .before .before .before .before .before .before .pre .1 .sized .flat .counts-are, c .before .loop .inv .progress .stands .sized .flat .counts-are)
 
--- src/lib.rt:91:1
 same-length-4 : tie.Need-same-length-4 Inv-loop μ-loop
 same-length-4 c = omega (arith, c .before .before .before .before .before .before .before .before .before .before .before .before .before .before .before .pre .1 .sized .holds .eight, c .before .loop .inv .progress .stands .sized .holds .eight)
 
--- src/lib.rt:91:1
 same-length-5 : tie.Need-same-length-5 Inv-loop μ-loop
 same-length-5 c = omega (arith, c .before .before .before .before .before .before .before .before .before .before .before .before .before .before .before .pre .1 .sized .marks, c .before .loop .inv .progress .stands .sized .marks)
 
--- src/lib.rt:91:1
 same-length-6 : tie.Need-same-length-6 Inv-loop μ-loop
 same-length-6 c = omega (arith, c .before .before .before .before .before .before .before .before .before .before .before .before .before .before .before .pre .1 .sized .ticks, c .before .loop .inv .progress .stands .sized .ticks)
 
--- src/lib.rt:91:1
 same-length-7 : tie.Need-same-length-7 Inv-loop μ-loop
 same-length-7 c = omega (arith, c .before .before .before .before .before .before .before .before .before .before .before .before .before .before .before .pre .1 .sized .credits, c .before .loop .inv .progress .stands .sized .credits)
 
--- src/lib.rt:91:1
 same-length-8 : tie.Need-same-length-8 Inv-loop μ-loop
 same-length-8 c = omega (arith, c .before .before .before .before .before .before .before .before .before .before .before .before .before .before .before .pre .1 .sized .since, c .before .loop .inv .progress .stands .sized .since)
 
--- src/lib.rt:91:1
 same-length-9 : tie.Need-same-length-9 Inv-loop μ-loop
 same-length-9 c = c .before .loop .inv .answers-long
 
--- src/lib.rt:91:1
 same-length-10 : tie.Need-same-length-10 Inv-loop μ-loop
 same-length-10 c = c .before .loop .inv .list-long
 
--- src/lib.rt:91:1
 returns : tie.Need-returns Inv-loop μ-loop
 returns c = over-all (c .before .loop .inv) (omega (arith, c .loop-test .left))
 

@@ -4,50 +4,39 @@ use borrow.Author.Needs.{needs}
 use Rattle.fenuschia_c.proofs.sizing.fenuschia_sizing.Statement.{statement}
 use Rattle.fenuschia_c.proofs.sizing.fenuschia_sizing.Tie as tie
 
--- src/sizing.rt:28:9
 read-requires : tie.Need-read-requires
 read-requires c κs = search needs
 
--- src/sizing.rt:30:9
 returns : tie.Need-returns
 returns c = file-refused _ _ (c .before .before .read .result) (c .before .before .read .ensures) (c .if1 .taken)
 
--- src/sizing.rt:33:9
 bounds-of-requires : tie.Need-bounds-of-requires
 bounds-of-requires c κs = search needs
 
--- src/sizing.rt:35:9
 returns-2 : tie.Need-returns-2
-returns-2 c = bounds-refused _ _ (c .before .before .before .before .before .before .read .result) (c .before .before .before .before .before .before .read .ensures) (c .before .before .before .before .if1 .left) (c .before .before .bounds-of .result) (c .before .before .bounds-of .ensures) (c .if2 .taken)
+returns-2 c = bounds-refused _ _ (c .before .before .before .before .before .read .result) (c .before .before .before .before .before .read .ensures) (c .before .before .before .if1 .left) (c .before .bounds-of .result) (c .before .bounds-of .ensures) (c .if2 .taken)
 
--- src/sizing.rt:38:9
 returns-3 : tie.Need-returns-3
-returns-3 c = short-refused _ _ (c .before .before .before .before .before .before .before .read .result) (c .before .before .before .before .before .before .before .read .ensures) (c .before .before .before .before .before .if1 .left) (c .before .before .before .bounds-of .result) (c .before .before .before .bounds-of .ensures) (c .before .if2 .left) (c .if3 .taken)
+returns-3 c = short-refused _ _ (c .before .before .before .before .before .before .read .result) (c .before .before .before .before .before .before .read .ensures) (c .before .before .before .before .if1 .left) (c .before .before .bounds-of .result) (c .before .before .bounds-of .ensures) (c .before .if2 .left) (c .if3 .taken)
 
--- src/sizing.rt:41:5
 put-eight-requires : tie.Need-put-eight-requires
 put-eight-requires c κs = search needs
 
--- src/sizing.rt:43:5
 put-eight-requires-2 : tie.Need-put-eight-requires-2
 put-eight-requires-2 c κs = search needs
 
--- src/sizing.rt:45:5
 put-eight-requires-3 : tie.Need-put-eight-requires-3
 put-eight-requires-3 c κs = search needs
 
--- src/sizing.rt:47:5
 put-eight-requires-4 : tie.Need-put-eight-requires-4
 put-eight-requires-4 c κs = search needs
 
--- src/sizing.rt:24:1
 same-length : tie.Need-same-length
 same-length c = search needs
 
--- src/sizing.rt:24:1
 returns-4 : tie.Need-returns-4
 returns-4 c =
-    sized-given _ _ (c .before .before .before .before .before .before .before .before .before .before .before .before .before .before .before .before .before .before .before .before .before .before .before .before .before .before .before .read .result) (c .before .before .before .before .before .before .before .before .before .before .before .before .before .before .before .before .before .before .before .before .before .before .before .before .before .before .before .read .ensures) (c .before .before .before .before .before .before .before .before .before .before .before .before .before .before .before .before .before .before .before .before .before .before .before .before .before .if1 .left) (c .before .before .before .before .before .before .before .before .before .before .before .before .before .before .before .before .before .before .before .before .before .before .before .bounds-of .result) (c .before .before .before .before .before .before .before .before .before .before .before .before .before .before .before .before .before .before .before .before .before .before .before .bounds-of .ensures) (c .before .before .before .before .before .before .before .before .before .before .before .before .before .before .before .before .before .before .before .before .before .if2 .left) (omega (arith, c .before .before .before .before .before .before .before .before .before .before .before .before .before .before .before .before .before .before .before .before .if3 .left)) (c .before .before .before .before .before .before .before .before .before .before .before .before .before .before .before .before .before .put-eight .ensures) (c .before .before .before .before .before .before .before .before .before .before .before .before .put-eight2 .ensures) (c .before .before .before .before .before .before .before .put-eight3 .ensures) (c .before .before .put-eight4 .ensures)
+    sized-given _ _ (c .before .before .before .before .before .before .before .before .before .before .before .before .before .before .before .before .before .before .before .before .before .before .before .before .before .before .read .result) (c .before .before .before .before .before .before .before .before .before .before .before .before .before .before .before .before .before .before .before .before .before .before .before .before .before .before .read .ensures) (c .before .before .before .before .before .before .before .before .before .before .before .before .before .before .before .before .before .before .before .before .before .before .before .before .if1 .left) (c .before .before .before .before .before .before .before .before .before .before .before .before .before .before .before .before .before .before .before .before .before .before .bounds-of .result) (c .before .before .before .before .before .before .before .before .before .before .before .before .before .before .before .before .before .before .before .before .before .before .bounds-of .ensures) (c .before .before .before .before .before .before .before .before .before .before .before .before .before .before .before .before .before .before .before .before .before .if2 .left) (omega (arith, c .before .before .before .before .before .before .before .before .before .before .before .before .before .before .before .before .before .before .before .before .if3 .left)) (c .before .before .before .before .before .before .before .before .before .before .before .before .before .before .before .before .before .put-eight .ensures) (c .before .before .before .before .before .before .before .before .before .before .before .before .put-eight2 .ensures) (c .before .before .before .before .before .before .before .put-eight3 .ensures) (c .before .before .put-eight4 .ensures)
 
 pub fenuschia-sizing-spec : {M : Type 1} → statement M
 fenuschia-sizing-spec =

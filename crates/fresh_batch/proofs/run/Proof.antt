@@ -2,86 +2,67 @@ use native.Mathlib.Omega.{arith}
 use Rattle.model.specs.Batch.{reportsIn, numbersIn}
 use Rattle.table.proofs.Shape.{sized}
 use Rattle.table.proofs.PassingRecord.{counts-pass}
-use Rattle.fenuschia_c.proofs.FreshLists.{fresh-stands, from-fresh}
+use Rattle.fresh_batch.proofs.FreshLists.{fresh-stands, from-fresh}
 use borrow.Author.Needs.{needs}
-use Rattle.fenuschia_c.proofs.fresh.run.Statement.{statement}
-use Rattle.fenuschia_c.proofs.fresh.run.Tie as tie
+use Rattle.fresh_batch.proofs.run.Statement.{statement}
+use Rattle.fresh_batch.proofs.run.Tie as tie
 
--- src/fresh.rt:20:30
 slice-aggregate-put-table : tie.Need-slice-aggregate-put-table
 slice-aggregate-put-table c = search needs
 
--- src/fresh.rt:20:5
 put-table-requires : tie.Need-put-table-requires
 put-table-requires c κs = search needs
 
--- src/fresh.rt:24:9
 full-accounts-requires : tie.Need-full-accounts-requires
 full-accounts-requires c κs = counts-pass (c .before .before .before .before .before .before .args .t1) (c .before .before .before .before .before .before .pre .0) .links-most
 
--- src/fresh.rt:25:9
 slice-aggregate-put-accounts : tie.Need-slice-aggregate-put-accounts
 slice-aggregate-put-accounts c = search needs
 
--- src/fresh.rt:26:9
 slice-aggregate-put-accounts-2 : tie.Need-slice-aggregate-put-accounts-2
 slice-aggregate-put-accounts-2 c = search needs
 
--- src/fresh.rt:23:5
 put-accounts-requires : tie.Need-put-accounts-requires
 put-accounts-requires c κs = search needs
 
--- src/fresh.rt:40:9
 slice-aggregate-run : tie.Need-slice-aggregate-run
 slice-aggregate-run c = search needs
 
--- src/fresh.rt:42:9
 slice-aggregate-run-2 : tie.Need-slice-aggregate-run-2
 slice-aggregate-run-2 c = search needs
 
--- src/fresh.rt:43:9
 slice-aggregate-run-3 : tie.Need-slice-aggregate-run-3
 slice-aggregate-run-3 c = search needs
 
--- src/fresh.rt:44:9
 slice-aggregate-run-4 : tie.Need-slice-aggregate-run-4
 slice-aggregate-run-4 c = search needs
 
--- src/fresh.rt:45:9
 slice-aggregate-run-5 : tie.Need-slice-aggregate-run-5
 slice-aggregate-run-5 c = search needs
 
--- src/fresh.rt:46:9
 slice-aggregate-run-6 : tie.Need-slice-aggregate-run-6
 slice-aggregate-run-6 c = search needs
 
--- src/fresh.rt:47:9
 slice-aggregate-run-7 : tie.Need-slice-aggregate-run-7
 slice-aggregate-run-7 c = search needs
 
--- src/fresh.rt:48:9
 slice-aggregate-run-8 : tie.Need-slice-aggregate-run-8
 slice-aggregate-run-8 c = search needs
 
--- src/fresh.rt:49:9
 slice-aggregate-run-9 : tie.Need-slice-aggregate-run-9
 slice-aggregate-run-9 c = search needs
 
--- src/fresh.rt:39:5
 run-requires : tie.Need-run-requires
 run-requires c κs =
     let s = c .before .before .before .before .before .before .before .before .before .before .before .before .before .before .before .before .before .before .before .before .before .before .before .before .before .before in
     (record { words-are = omega (arith, c .before .before .before .before .before .before .before .before .before .before .before .before .before .before .before .before .before .before .before .before .words2 .given); numbers-are = sized (s .args .t1) _ (s .good .0) .numbers }, fresh-stands (s .args .t1) (c .before .before .before .before .before .before .before .before .before .before .before .before .before .before .before .before .before .before .before .before .before .put-table .ensures) (s .pre .0) (rw (c .before .before .before .before .before .before .before .before .before .before .before .before .before .before .before .before .before .before .before .full-accounts .ensures) at (c .before .before .before .before .before .before .before .before .before .before .before .before .before .before .before .before .put-accounts .ensures)), s .pre .1)
 
--- src/fresh.rt:15:1
 same-length : tie.Need-same-length
 same-length c = search needs
 
--- src/fresh.rt:15:1
 same-length-2 : tie.Need-same-length-2
 same-length-2 c = search needs
 
--- src/fresh.rt:15:1
 returns : tie.Need-returns
 returns c =
     let s = c .before .before .before .before .before .before .before .before .before .before .before .before .before .before .before .before .before .before .before .before .before .before .before .before .before .before .before .before .before .before .before .before .before .before .before .before .before .before .before in

@@ -1,33 +1,26 @@
-use Rattle.batch_bytes.proofs.NumberBytes.{three-laid}
+use Rattle.report_bytes.proofs.NumberBytes.{three-laid}
 use borrow.Author.Needs.{needs}
-use Rattle.batch_bytes.proofs.put_three.Statement.{statement}
-use Rattle.batch_bytes.proofs.put_three.Tie as tie
+use Rattle.report_bytes.proofs.put_three.Statement.{statement}
+use Rattle.report_bytes.proofs.put_three.Tie as tie
 
--- src/lib.rt:63:5
 write8-requires : tie.Need-write8-requires
 write8-requires c κs = search needs
 
--- src/lib.rt:64:17
 add-write8 : tie.Need-add-write8
 add-write8 c = search needs
 
--- src/lib.rt:64:5
 write8-requires-2 : tie.Need-write8-requires-2
 write8-requires-2 c κs = search needs
 
--- src/lib.rt:65:17
 add-write8-2 : tie.Need-add-write8-2
 add-write8-2 c = search needs
 
--- src/lib.rt:65:5
 write8-requires-3 : tie.Need-write8-requires-3
 write8-requires-3 c κs = search needs
 
--- src/lib.rt:59:1
 same-length : tie.Need-same-length
 same-length c = search needs
 
--- src/lib.rt:59:1
 returns : tie.Need-returns
 returns c =
     let s = c .before .before .before .before .before .before .before .before .before .before .before .before .before in

@@ -1,4 +1,4 @@
-// A batch from the fresh port of a table.
+// Internal to the product: a batch in bytes from the fresh port of a table.
 use flat_port::State;
 use port_scheduler::Sender;
 use table::Table;
@@ -12,7 +12,7 @@ ghost use Rattle.model.specs.Batch.{reportsIn, numbersIn, batch};
 ghost use Rattle.table.specs.View.{viewTable};
 ghost use Rattle.batch_bytes.specs.Contracts.{BytesAnswers};
 
-pub(crate) fn run(t: Table, reports: &[u8], answers: &mut [u8], departures: &mut [u8])
+pub fn run(t: Table, reports: &[u8], answers: &mut [u8], departures: &mut [u8])
     requires { ⌜ (tableRefusal (viewTable t) ≡ 0) × (3 * (length (now reports) / 40) ≤ length (now answers) / 8) ⌝ }
     ensures { λ _. ⌜ BytesAnswers (batch (viewTable t) (fresh (viewTable t)) (reportsIn (numbersIn (now (reports .entry)))) (numbersIn (now (departures .entry)))) (now (answers .entry)) (now (answers .exit)) (now (departures .entry)) (now (departures .exit)) ⌝ }
 {

@@ -14,7 +14,7 @@ use Rattle.model.proofs.Reports.{reportAt}
 use Rattle.model.proofs.Batches.{over-more}
 use Rattle.little_endian.specs.Output.{laid}
 use Rattle.little_endian.proofs.Laid.{none-laid, then-laid}
-use Rattle.batch_bytes.specs.Contracts.{reportIn}
+use Rattle.report_bytes.specs.Reports.{reportIn}
 
 -- ---- numbers read
 length-numbers : (n : ℕ) (bytes : List ℕ) → length (numbersOf n bytes) ≡ n

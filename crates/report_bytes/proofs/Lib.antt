@@ -1,0 +1,2 @@
+pub mod NumberBytes
+pub mod Refusing
