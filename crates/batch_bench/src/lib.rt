@@ -5,8 +5,10 @@ use port::Answer;
 use port::Port;
 use units::LIST_ROOM;
 use units::MOST_HELD;
+ghost use mathlib.Core.Path.{_≡_};
 ghost use Prim.Native.Nat.{_+_, _≤_};
 ghost use lib.ListN.{length};
+ghost use Rattle.model.specs.TableFile.{readTable};
 
 // More rows are not laid.
 const MOST_ROWS: usize = 1000000;
@@ -18,7 +20,9 @@ pub extern "C" fn bench_single_calls(
     reports: &[u8],
     answers: &mut [u8],
     departures: &mut [u8],
-) -> u32 {
+) -> u32
+    ensures { λ r. ⌜ r ≡ readTable (now (file .entry)) .refused ⌝ }
+{
     let reading = table_file::read(file);
     if reading.refused != 0 {
         return reading.refused;

@@ -14,12 +14,15 @@ use port_scheduler::Sender;
 use table::Table;
 use table::VirtualLink;
 use units::MOST_FRAMES;
+ghost use mathlib.Core.Path.{_≡_};
 ghost use Prim.Native.Nat.{_+_, _*_, _≤_};
+ghost use Rattle.model.specs.TableFile.{numberAt};
 ghost use Rattle.model.specs.Units.{mostFrames};
 
 // Lines, count, links, sizes.
 pub fn table_at(s: &[u8], at: usize) -> Table
     requires { ⌜ at ≤ 100 ⌝ }
+    ensures { λ r. ⌜ r .lines ≡ numberAt at 2 (now (s .entry)) ⌝ }
 {
     let n = given(s, at + 17, 256);
     let mut numbers = [read2(s, at + 4); 256];
@@ -70,7 +73,9 @@ fn sizes_at(s: &[u8], at: usize) -> [u32; 8]
 }
 
 // Clock, sender (kind, priority, start), table, line ticks, accounts, queues.
-pub fn port_of(s: &[u8]) -> Port {
+pub fn port_of(s: &[u8]) -> Port
+    ensures { λ r. ⌜ r .clock ≡ numberAt 0 8 (now (s .entry)) ⌝ }
+{
     let table = table_at(s, 18);
     let lines = 18 + table_length(s, 18);
     let line_ticks = ticks_at(s, lines);

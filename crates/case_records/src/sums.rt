@@ -8,13 +8,20 @@ use port_scheduler::Sender;
 use table::Table;
 use table::VirtualLink;
 use units::MOST_FRAMES;
-ghost use Prim.Native.Nat.{_≤_};
+ghost use Prim.Native.Nat.{_^_, _≤_, _<_};
 ghost use Rattle.model.specs.Units.{mostFrames};
 
 const NOTHING: u64 = 2166136261;
 
 fn with_byte(sum: u64, byte: u8) -> u64 {
     (sum ^ byte as u64) % 4294967296 * 16777619 % 4294967296
+}
+
+// The low 32 bits, which a sum does not pass.
+fn low(sum: u64) -> u64
+    ensures { λ r. ⌜ r < 2 ^ 32 ⌝ }
+{
+    sum % 4294967296
 }
 
 fn with(sum: u64, number: u64) -> u64 {
@@ -30,7 +37,9 @@ fn with(sum: u64, number: u64) -> u64 {
 }
 
 // The first n bytes, or all of them.
-pub fn of_bytes(bytes: &[u8], n: usize) -> u64 {
+pub fn of_bytes(bytes: &[u8], n: usize) -> u64
+    ensures { λ r. ⌜ r < 2 ^ 32 ⌝ }
+{
     let end = least(n, bytes.len());
     let mut sum = NOTHING;
     let mut i: usize = 0;
@@ -38,11 +47,13 @@ pub fn of_bytes(bytes: &[u8], n: usize) -> u64 {
         sum = with_byte(sum, bytes[i]);
         i += 1;
     }
-    sum
+    low(sum)
 }
 
 // The first n numbers, or all of them.
-pub fn of_list(list: &[u64], n: usize) -> u64 {
+pub fn of_list(list: &[u64], n: usize) -> u64
+    ensures { λ r. ⌜ r < 2 ^ 32 ⌝ }
+{
     let end = least(n, list.len());
     let mut sum = NOTHING;
     let mut i: usize = 0;
@@ -50,7 +61,7 @@ pub fn of_list(list: &[u64], n: usize) -> u64 {
         sum = with(sum, list[i]);
         i += 1;
     }
-    sum
+    low(sum)
 }
 
 fn with_link(sum: u64, number: u16, v: VirtualLink) -> u64 {
@@ -135,7 +146,9 @@ fn with_accounts(sum: u64, accounts: [Account; 256]) -> u64 {
     r
 }
 
-pub fn of_port(port: Port, whole: bool) -> u64 {
+pub fn of_port(port: Port, whole: bool) -> u64
+    ensures { λ r. ⌜ r < 2 ^ 32 ⌝ }
+{
     let table = port.table;
     let queues = port.queues;
     let sender = port.sender;
@@ -144,5 +157,5 @@ pub fn of_port(port: Port, whole: bool) -> u64 {
     let accounts = gate.accounts;
     let first = with_table(with(NOTHING, port.clock), table);
     let then = with_sender(with_queues(first, queues, whole), sender);
-    with_accounts(with_ticks(then, ticks), accounts)
+    low(with_accounts(with_ticks(then, ticks), accounts))
 }

@@ -32,6 +32,9 @@ loop-less c = search needs
 loop-again : tie.Need-loop-again Inv-loop μ-loop
 loop-again c = search needs
 
+low-requires : tie.Need-low-requires Inv-loop μ-loop
+low-requires c κs = search needs
+
 returns : tie.Need-returns Inv-loop μ-loop
 returns c = search needs
 
@@ -48,4 +51,5 @@ of-bytes-spec =
     add-i
     loop-less
     loop-again
+    low-requires
     returns)
