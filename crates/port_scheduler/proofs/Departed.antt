@@ -1,5 +1,5 @@
 -- Three numbers into a list; the list of departures, one more.
-use mathlib.Core.Path.{_≡_, refl, ap, _∙_}
+use mathlib.Core.Path.{_≡_, refl, _∙_}
 use mathlib.Core.List.{List, [], _∷_, _++_, append-assoc, flatMap}
 use Prim.Native.Nat.{ℕ, suc, _+_, _*_, _≤_}
 use native.Mathlib.Omega.{arith}
@@ -7,7 +7,7 @@ use lib.ListN.{length, take, drop, set}
 use lib.Seq.{sets-eq, take-at, drop-at, drop-drop}
 use Rattle.model.specs.Machine.{Departure}
 use Rattle.model.specs.Report.{threeNumbers}
-use Rattle.model.proofs.Lists.{length-flatMap}
+use Rattle.model.proofs.Lists.{length-flatMap, flatMap-more}
 
 pub three-set : (list : List ℕ) (k a b c : ℕ) → k + 3 ≤ length list → set (set (set list k a) (k + 1) b) (k + 2) c ≡ take k list ++ (a ∷ b ∷ c ∷ drop (k + 3) list)
 three-set list k a b c h =
@@ -16,18 +16,13 @@ three-set list k a b c h =
     let three = a ∷ b ∷ c ∷ [] in
     rw (one, two) (sets-eq three list k h ∙ append-assoc (take k list) three (drop (k + 3) list))
 
-flat-more : (ds : List Departure) (d : Departure) → flatMap threeNumbers (ds ++ (d ∷ [])) ≡ flatMap threeNumbers ds ++ threeNumbers d
-unfolding flatMap
-flat-more [] d = refl
-flat-more (x ∷ ds) d = ap (λ (l : List ℕ). x .number ∷ x .length ∷ x .freed ∷ l) (flat-more ds d)
-
 pub list-more : (ds : List Departure) (d : Departure) (k : ℕ) (list₀ list : List ℕ) → k ≡ length ds → list ≡ flatMap threeNumbers ds ++ drop (3 * k) list₀ →
     take (3 * k) list ++ (d .number ∷ d .length ∷ d .freed ∷ drop (3 * k + 3) list) ≡ flatMap threeNumbers (ds ++ (d ∷ [])) ++ drop (3 * (k + 1)) list₀
 list-more ds d k list₀ list e q =
     let n : length (flatMap threeNumbers ds) ≡ 3 * k = omega (arith, length-flatMap threeNumbers 3 (λ x. refl) ds) in
     let u : 3 * (k + 1) ≡ 3 * k + 3 = omega arith in
     rw (
-      flat-more ds d,
+      flatMap-more threeNumbers ds d,
       append-assoc,
       u,
       ← drop-drop 3 (3 * k) list,
