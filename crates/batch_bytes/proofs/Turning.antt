@@ -16,7 +16,7 @@ use Rattle.model.specs.Run.{Entry}
 use Rattle.model.specs.Batch.{Batched, reportsIn, numbersIn, bytesOf, answerNumbers, departureNumbers, over}
 use Rattle.model.proofs.Lists.{length-flatMap, flatMap-more}
 use Rattle.model.proofs.Reports.{reportAt, report-next, no-report}
-use Rattle.model.proofs.Batches.{at-last, entryOf, Alike, alike}
+use Rattle.model.proofs.Batches.{at-last, entryOf, leaves, Alike, alike}
 use Rattle.little_endian.specs.Output.{laid}
 use Rattle.flat_port.specs.declared.State.{State}
 use Rattle.flat_port.specs.declared.Reported.{Reported}
@@ -105,6 +105,19 @@ module _ {t : Table} {l₀ : Lists} {whole : Batched} {reports answers₀ list�
       let e : whole .entries ≡ k .so-far = ap (λ (b : Batched). b .entries) (at-last (p .going)) in
       (at-end p, record { answers-are = rw e (k .answers-are); list-is = rw e (k .list-is) })
 
+  -- what a report that is lent a part of the room leaves of it
+  module _ (most : ℕ) {r : Report} {part : List ℕ} {a : Reported} {l' : Lists} (x : Reports t s l r (take most room) part a l') (pl : length part ≡ length (take most room)) (low : most ≤ 6144) where
+    cut-long : length (take most room) ≡ most
+    cut-long = length-take-le most room (omega (arith, k .room-long))
+
+    pub few : 3 * a .frames ≤ most
+    few =
+        let e : min (3 * a .frames) (length part) ≡ 3 * a .frames = sym (length-take (3 * a .frames) part) ∙ rw (x .list, x .frames) (leaves t (viewState t s l) r (take most room) .written) in
+        omega (arith, pl, cut-long)
+
+    pub room-after : length (part ++ drop most room) ≡ 6144
+    room-after = rw (length-append, length-drop) (omega (arith, pl, cut-long, k .room-long))
+
   module _ (h : i < length reports / 40) {r : Report} (re : r ≡ reportIn reports (40 * i)) {most : ℕ} (me : most ≡ min 6144 (length list₀ / 8 - 3 * written)) {part : List ℕ} {a : Reported} {l' : Lists}
       (x : Reports t s l r (take most room) part a l') (pl : length part ≡ length (take most room)) where
     abbrev lent : List ℕ
@@ -113,11 +126,11 @@ module _ {t : Table} {l₀ : Lists} {whole : Batched} {reports answers₀ list�
     abbrev entry : Entry
     entry = entryOf t (viewState t s l) r lent
 
-    cut-long : length (take most room) ≡ most
-    cut-long = length-take-le most room (omega (arith, k .room-long))
+    low : most ≤ 6144
+    low = omega (arith, me)
 
     cut-is : length (take most room) ≡ min 6144 (length lent)
-    cut-is = rw (cut-long, length-drop, numbers-long list₀) me
+    cut-is = rw (cut-long most x pl low, length-drop, numbers-long list₀) me
 
     now-due : Progress t l₀ whole (k .so-far) (r ∷ reportsIn (drop (5 * (i + 1)) (numbersIn reports))) lent s l i written accepted
     now-due =
@@ -130,17 +143,8 @@ module _ {t : Table} {l₀ : Lists} {whole : Batched} {reports answers₀ list�
     departures-are : departureNumbers entry ≡ take (3 * a .frames) part
     departures-are = departed-whole (k .progress .stands) r (take most room) lent cut-is x
 
-    -- the departures are within what was lent
-    pub few : 3 * a .frames ≤ most
-    few =
-        let e : min (3 * a .frames) (length part) ≡ 3 * a .frames = sym (length-take (3 * a .frames) part) ∙ sym (ap length departures-are) ∙ left now-due reported .written ∙ rw (reported .frames) in
-        omega (arith, pl, cut-long)
-
     pub within-after : 3 * (written + a .frames) ≤ length list₀ / 8
-    within-after = omega (arith, few, me, k .within)
-
-    pub room-after : length (part ++ drop most room) ≡ 6144
-    room-after = rw (length-append, length-drop) (omega (arith, pl, cut-long, k .room-long, me))
+    within-after = omega (arith, few most x pl low, me, k .within)
 
     answers-more : {n m : ℕ} {answers' : List ℕ} → n ≡ a .refused → m ≡ a .verdict → answers' ≡ laid (24 * i) (bytesOf (n ∷ m ∷ a .frames ∷ [])) answers →
         answers' ≡ over (bytesOf (flatMap answerNumbers (k .so-far ++ (entry ∷ [])))) answers₀
@@ -153,7 +157,7 @@ module _ {t : Table} {l₀ : Lists} {whole : Batched} {reports answers₀ list�
         list' ≡ over (bytesOf (flatMap departureNumbers (k .so-far ++ (entry ∷ [])))) list₀
     list-more f =
         let far : 8 * length (flatMap departureNumbers (k .so-far)) ≡ 24 * written = omega (arith, k .progress .departed) in
-        let d : take (3 * a .frames) (part ++ drop most room) ≡ departureNumbers entry = take-append-le (3 * a .frames) part (drop most room) (omega (arith, few, pl, cut-long)) ∙ sym departures-are in
+        let d : take (3 * a .frames) (part ++ drop most room) ≡ departureNumbers entry = take-append-le (3 * a .frames) part (drop most room) (omega (arith, few most x pl low, pl, cut-long most x pl low)) ∙ sym departures-are in
         rw (flatMap-more departureNumbers (k .so-far) entry)
         (bytes-over (flatMap departureNumbers (k .so-far)) (departureNumbers entry) list₀ far (k .list-is) (f ∙ rw d))
 
@@ -169,7 +173,7 @@ module _ {t : Table} {l₀ : Lists} {whole : Batched} {reports answers₀ list�
           list-is = list-more le;
           answers-long = al ∙ k .answers-long;
           list-long = ll ∙ k .list-long;
-          room-long = room-after;
+          room-long = room-after most x pl low;
           enough = k .enough;
           some-left = omega arith;
           within = within-after;

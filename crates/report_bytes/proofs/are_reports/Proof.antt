@@ -12,7 +12,7 @@ abbrev μ-loop : tie.MeasureT-loop
 μ-loop reports n i₀ i = n - i
 
 returns : tie.Need-returns Inv-loop μ-loop
-returns c = odd-bytes (c .before .before .args .reports .now) (c .if1 .taken)
+returns c = odd-bytes (c .before .before .args .reports .now) (λ z. c .if1 .taken (omega (arith, z)))
 
 loop-holds : tie.Need-loop-holds Inv-loop μ-loop
 loop-holds c = looks (c .before .before .args .reports .now) (c .if1 .left)
@@ -24,7 +24,7 @@ read8-requires : tie.Need-read8-requires Inv-loop μ-loop
 read8-requires c κs = search needs
 
 returns-2 : tie.Need-returns-2 Inv-loop μ-loop
-returns-2 c = unknown (c .before .before .before .loop .inv) (c .before .before .loop-test .taken) (c .before .read8 .ensures) (c .if2 .taken)
+returns-2 c = unknown (c .before .before .before .loop .inv) (omega (arith, c .before .before .loop-test .taken)) (c .before .read8 .ensures) (c .if2 .taken)
 
 add-i : tie.Need-add-i Inv-loop μ-loop
 add-i c = search needs
@@ -33,7 +33,7 @@ loop-less : tie.Need-loop-less Inv-loop μ-loop
 loop-less c = search needs
 
 loop-again : tie.Need-loop-again Inv-loop μ-loop
-loop-again c = looks-on (c .before .before .before .loop .inv) (c .before .before .loop-test .taken) (c .before .read8 .ensures) (omega (arith, c .if2 .left))
+loop-again c = looks-on (c .before .before .before .loop .inv) (omega (arith, c .before .before .loop-test .taken)) (c .before .read8 .ensures) (omega (arith, c .if2 .left))
 
 returns-3 : tie.Need-returns-3 Inv-loop μ-loop
 returns-3 c = all-known (c .before .loop .inv) (omega (arith, c .loop-test .left))

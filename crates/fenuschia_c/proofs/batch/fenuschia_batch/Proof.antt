@@ -21,7 +21,10 @@ returns-2 c = lists-refused _ _ _ _ (c .before .before .before .read .result) (c
 run-requires : tie.Need-run-requires
 run-requires c κs =
     let s = c .before .before .before .before .before .before .before .before .before .before .before in
-    (passes (s .args .file .now) (s .args .reports .now) (s .args .answers .now) (s .args .departures .now) (c .before .before .before .before .before .before .read .result) (c .before .before .before .before .before .before .read .ensures) (c .before .before .before .before .if1 .left) (c .before .before .before .before .before .refusal .ensures), enough-room (s .args .reports .now) (length (s .args .answers .now)) (sym (c .before .before .before .before .before .refusal .ensures) ∙ c .before .before .before .if2 .left))
+    let read = c .before .before .before .before .before .before .read in
+    let if1 = c .before .before .before .before .if1 in
+    let refusal = c .before .before .before .before .before .refusal in
+    (passes (s .args .file .now) (s .args .reports .now) (s .args .answers .now) (s .args .departures .now) (read .result) (read .ensures) (if1 .left) (refusal .ensures), enough-room (s .args .reports .now) (length (s .args .answers .now)) (sym (refusal .ensures) ∙ c .before .before .before .if2 .left))
 
 same-length : tie.Need-same-length
 same-length c = search needs

@@ -36,7 +36,15 @@ same-length c = search needs
 
 returns-4 : tie.Need-returns-4
 returns-4 c =
-    sized-given _ _ (c .before .before .before .before .before .before .before .before .before .before .before .before .before .before .before .before .before .before .before .before .before .before .before .before .before .before .read .result) (c .before .before .before .before .before .before .before .before .before .before .before .before .before .before .before .before .before .before .before .before .before .before .before .before .before .before .read .ensures) (c .before .before .before .before .before .before .before .before .before .before .before .before .before .before .before .before .before .before .before .before .before .before .before .before .if1 .left) (c .before .before .before .before .before .before .before .before .before .before .before .before .before .before .before .before .before .before .before .before .before .before .bounds-of .result) (c .before .before .before .before .before .before .before .before .before .before .before .before .before .before .before .before .before .before .before .before .before .before .bounds-of .ensures) (c .before .before .before .before .before .before .before .before .before .before .before .before .before .before .before .before .before .before .before .before .before .if2 .left) (omega (arith, c .before .before .before .before .before .before .before .before .before .before .before .before .before .before .before .before .before .before .before .before .if3 .left)) (c .before .before .before .before .before .before .before .before .before .before .before .before .before .before .before .before .before .put-eight .ensures) (c .before .before .before .before .before .before .before .before .before .before .before .before .put-eight2 .ensures) (c .before .before .before .before .before .before .before .put-eight3 .ensures) (c .before .before .put-eight4 .ensures)
+    let read = c .before .before .before .before .before .before .before .before .before .before .before .before .before .before .before .before .before .before .before .before .before .before .before .before .before .before .read in
+    let if1 = c .before .before .before .before .before .before .before .before .before .before .before .before .before .before .before .before .before .before .before .before .before .before .before .before .if1 in
+    let bounds-of = c .before .before .before .before .before .before .before .before .before .before .before .before .before .before .before .before .before .before .before .before .before .before .bounds-of in
+    let if2 = c .before .before .before .before .before .before .before .before .before .before .before .before .before .before .before .before .before .before .before .before .before .if2 in
+    let if3 = c .before .before .before .before .before .before .before .before .before .before .before .before .before .before .before .before .before .before .before .before .if3 in
+    let put-eight = c .before .before .before .before .before .before .before .before .before .before .before .before .before .before .before .before .before .put-eight in
+    let put-eight2 = c .before .before .before .before .before .before .before .before .before .before .before .before .put-eight2 in
+    let put-eight3 = c .before .before .before .before .before .before .before .put-eight3 in
+    sized-given _ _ (read .result) (read .ensures) (if1 .left) (bounds-of .result) (bounds-of .ensures) (if2 .left) (omega (arith, if3 .left)) (put-eight .ensures) (put-eight2 .ensures) (put-eight3 .ensures) (c .before .before .put-eight4 .ensures)
 
 pub fenuschia-sizing-spec : {M : Type 1} → statement M
 fenuschia-sizing-spec =
