@@ -66,8 +66,8 @@ uint32_t fenuschia_read(const uint8_t *file, size_t file_length);
 uint32_t fenuschia_write(const uint8_t *file, size_t file_length, uint8_t *out, size_t out_length);
 
 /* The sizing of the buffers of a table file. Writes 32 numbers of 8 bytes to out, 256 bytes; what is behind them stays. Priority 0 first
-   in each: eight bounds, the most bytes that a buffer ever holds; eight holds, the most ticks within which a stored frame has left;
-   eight windows, how many ticks after a quiet moment the bound is first reached; eight sizes, those of the table.
+   in each: eight bounds, in bytes, which a buffer never holds more than; eight holds, the most ticks within which a stored frame has left;
+   eight windows, how many ticks after a quiet moment the formulas first reach the bound; eight sizes, those of the table.
    Answers 0; or 1 to 7; or 8, the table has no bounds; or 9, out has fewer than 256 bytes. */
 uint32_t fenuschia_sizing(const uint8_t *file, size_t file_length, uint8_t *out, size_t out_length);
 
