@@ -18,6 +18,7 @@ pub mod Bags
 pub mod Curves
 pub mod Holds
 pub mod BoundFacts
+pub mod Covering
 -- ---- the gate: what passes it is within the arrival curve; links that keep BAG and jitter
 pub mod Passed
 pub mod TokenBucket

@@ -12,6 +12,7 @@ pub mod Port
 pub mod Fitness
 pub mod Report
 pub mod Sheet
+pub mod NextTable
 pub mod Run
 pub mod Batch
 pub mod Redundancy

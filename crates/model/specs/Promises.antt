@@ -115,6 +115,11 @@ pub record BoundFacts (t : Table) (p : ℕ) : Type 0 where
 abbrev pub BoundIsGreatest : Type 0
 BoundIsGreatest = (t : Table) → boundsRefusal t ≡ 0 → (p : ℕ) → p < 8 → BoundFacts t p
 
+-- of a table that has bounds, the hold of a link's priority is at least its greatest length, and so its least: the difference in the jitter
+-- for the next switch is never truncated
+abbrev pub HoldCovers : Type 0
+HoldCovers = (t : Table) → boundsRefusal t ≡ 0 → (i : ℕ) → i < length (t .links) → linkAt (t .links) i .greatest ≤ hold t (linkAt (t .links) i .priority)
+
 -- the frames freed and those left are the frames held before: an advance frees no more than are held
 abbrev pub NoneAppears : Type 0
 NoneAppears = (t : Table) (s : Port) → fit t s ≡ true → length (s .scheduler .queues) ≡ 8 → (time : ℕ)

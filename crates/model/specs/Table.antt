@@ -6,7 +6,7 @@ use Prim.Native.Nat.{ℕ, _+_}
 use lib.Dec.{eqb, leb, ltb}
 use lib.ListN.{length, getD, replicate}
 use Rattle.model.specs.Basics.{allHold, Check, check, firstMet}
-use Rattle.model.specs.Units.{leastLength, greatestLength}
+use Rattle.model.specs.Units.{leastLength, greatestLength, greatestJitter}
 use Rattle.model.specs.Link.{VirtualLink}
 
 pub record Table : Type 0 where
@@ -41,7 +41,7 @@ fieldsInRange lines v =
     ∷ leb leastLength (v .least)
     ∷ leb (v .least) (v .greatest)
     ∷ leb (v .greatest) greatestLength
-    ∷ leb (v .jitter) 125_000
+    ∷ leb (v .jitter) greatestJitter
     ∷ []
     )
 

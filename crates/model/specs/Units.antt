@@ -12,6 +12,10 @@ leastLength = 84
 abbrev pub greatestLength : ℕ
 greatestLength = 1_538
 
+-- "jitter (4, 0 to 125,000)"
+abbrev pub greatestJitter : ℕ
+greatestJitter = 125_000
+
 -- "a stored frame now occupies its length less 20. Held bytes, marks, sizes, the dropped verdict, bytes freed and the mended bound all count
 -- so": what a frame of n wire bytes occupies of its buffer, which keeps the Ethernet frame without preamble and gap
 abbrev pub unkept : ℕ

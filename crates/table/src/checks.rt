@@ -2,6 +2,7 @@
 use crate::Table;
 use crate::VirtualLink;
 use numbers::u8_as_u16;
+use units::GREATEST_JITTER;
 use units::GREATEST_LENGTH;
 use units::LEAST_LENGTH;
 ghost use mathlib.Core.Path.{_≡_};
@@ -50,7 +51,7 @@ fn fields_in_range(lines: u16, link: VirtualLink) -> bool
     if GREATEST_LENGTH < link.greatest {
         return false;
     }
-    link.jitter <= 125000
+    link.jitter <= GREATEST_JITTER
 }
 
 // 4, then 5. The link has so many before it, the last of them with the previous number.

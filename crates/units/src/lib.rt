@@ -16,6 +16,9 @@ pub const LEAST_LENGTH: u16 = 84;
 
 pub const GREATEST_LENGTH: u16 = 1538;
 
+// The jitter of a virtual link, in ticks, is at most this.
+pub const GREATEST_JITTER: u32 = 125000;
+
 // The BAG of code 0, in ticks: 1 ms.
 pub const LEAST_BAG: u64 = 12500;
 

@@ -1,0 +1,82 @@
+-- The next switch on the way: the table rows for its port, and the file of a whole table for it.
+use mathlib.Core.Bool.{Bool, true, _&&_, not}
+use mathlib.Core.List.{List, [], _∷_, map}
+use Prim.Native.Nat.{ℕ, zero, suc, _+_, _-_}
+use lib.Dec.{leb}
+use lib.ListN.{replicate}
+use Rattle.model.specs.Basics.{allHold, check, firstMet, firstRefusal}
+use Rattle.model.specs.Units.{greatestJitter}
+use Rattle.model.specs.Link.{VirtualLink}
+use Rattle.model.specs.Table.{Table, blankTable, sizeChecks}
+use Rattle.model.specs.TableFile.{tableBytes, readTable}
+use Rattle.model.specs.Bounds.{boundsRefusal, hold}
+
+-- "every link of this table, now put on the chosen line, with jitter J + hold − least length, hold being that of its priority". That the
+-- difference is never truncated is the theorem HoldCovers
+unfoldable pub nextLink : Table → ℕ → VirtualLink → VirtualLink
+nextLink t line v =
+    record {
+      number = v .number;
+      line = line;
+      priority = v .priority;
+      code = v .code;
+      least = v .least;
+      greatest = v .greatest;
+      jitter = v .jitter + hold t (v .priority) - v .least;
+    }
+
+unfoldable pub nextLinks : Table → ℕ → List VirtualLink
+nextLinks t line = map (nextLink t line) (t .links)
+
+-- the new line count, and sizes: "The caller adds sizes afterwards"
+abbrev pub nextTable : Table → ℕ → ℕ → List ℕ → Table
+nextTable t line lines sizes = record { lines = lines; links = nextLinks t line; sizes = sizes }
+
+-- ---- the call
+
+-- "22, the chosen line is not below the new line count, checked first, and then 3 for a new line count outside 1 to 24"
+unfoldable pub lineRefusal : ℕ → ℕ → ℕ
+lineRefusal line lines = firstMet (check 22 (leb lines line) ∷ check 3 (not (allHold (leb 1 lines ∷ leb lines 24 ∷ []))) ∷ [])
+
+-- not 21: "a jitter would exceed 125,000"
+unfoldable pub jittersInRange : List VirtualLink → Bool
+jittersInRange [] = true
+jittersInRange (v ∷ links) = leb (v .jitter) greatestJitter && jittersInRange links
+
+-- ".. before the table's own checks; 21 .. after 8"
+unfoldable pub nextRefusal : Table → ℕ → ℕ → ℕ
+nextRefusal t line lines =
+    firstRefusal (lineRefusal line lines)
+    (firstRefusal (boundsRefusal t) (firstMet (check 21 (not (jittersInRange (nextLinks t line))) ∷ [])))
+
+-- a refusal and no table, or 0 and the table with sizes 0
+pub record Next : Type 0 where
+  pub refused : ℕ
+  pub table : Table
+
+unfoldable pub nextOr : ℕ → Table → ℕ → ℕ → Next
+nextOr zero t line lines = record { refused = 0; table = nextTable t line lines (replicate 8 0) }
+nextOr (suc n) t line lines = record { refused = suc n; table = blankTable }
+
+unfoldable pub next : Table → ℕ → ℕ → Next
+next t line lines = nextOr (nextRefusal t line lines) t line lines
+
+-- ---- the same from a table file to a table file, with sizes
+
+-- the refusals of line and line count, those of the file, those of its table, and 6 of the sizes, last
+unfoldable pub nextFileRefusal : List ℕ → ℕ → ℕ → List ℕ → ℕ
+nextFileRefusal file line lines sizes =
+    firstRefusal (lineRefusal line lines)
+    (firstRefusal (readTable file .refused) (firstRefusal (nextRefusal (readTable file .table) line lines) (firstMet (sizeChecks sizes))))
+
+-- a refusal and no bytes, or 0 and those of the next table's file
+pub record NextFile : Type 0 where
+  pub refused : ℕ
+  pub bytes : List ℕ
+
+unfoldable pub nextFileOr : ℕ → Table → ℕ → ℕ → List ℕ → NextFile
+nextFileOr zero t line lines sizes = record { refused = 0; bytes = tableBytes (nextTable t line lines sizes) }
+nextFileOr (suc n) t line lines sizes = record { refused = suc n; bytes = [] }
+
+unfoldable pub nextFile : List ℕ → ℕ → ℕ → List ℕ → NextFile
+nextFile file line lines sizes = nextFileOr (nextFileRefusal file line lines sizes) (readTable file .table) line lines sizes
