@@ -1,3 +1,4 @@
 pub mod Climbing
 pub mod Limiting
 pub mod Answering
+pub mod Answered

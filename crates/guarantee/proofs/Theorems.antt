@@ -3,9 +3,10 @@ use mathlib.Core.Path.{sym, ap, _∙_}
 use Rattle.model.specs.Bounds.{sizing}
 use Rattle.table.specs.View.{viewTable}
 use Rattle.bounds.specs.declared.Bounds.{Bounds as BoundsRecord}
+use Rattle.bounds.proofs.Answered.{Answers, sized}
 use Rattle.port_batch.proofs.Theorems.{demand-three-of-calls}
 use Rattle.guarantee.specs.Guarantee.{SizingHolds}
-use Rattle.guarantee.proofs.Answered.{Answers, sized, demand-by}
+use Rattle.guarantee.proofs.Answered.{demand-by}
 
 pub sizing-holds : SizingHolds
 sizing-holds t b e z p log c =

@@ -1,9 +1,9 @@
 -- The first n entries of a list, blank where it has fewer.
 use mathlib.Core.Path.{_≡_, refl, ap}
-use mathlib.Core.List.{List, [], _∷_, _++_}
+use mathlib.Core.List.{List, [], _∷_, _++_, map}
 use Prim.Native.Nat.{ℕ, zero, suc, _<_}
 use native.Mathlib.Omega.{arith}
-use lib.ListN.{length, getD, set, replicate}
+use lib.ListN.{length, getD, take, set, replicate}
 use Rattle.model.specs.Basics.{entries}
 
 pub length-entries {ℓ} : {A : Type ℓ} (b : A) (n : ℕ) (l : List A) → length (entries b n l) ≡ n
@@ -45,3 +45,12 @@ entries-set b zero l i x h = refl
 entries-set b (suc n) [] i x h = absurd (omega arith)
 entries-set b (suc n) (y ∷ l) zero x h = refl
 entries-set {A = A} b (suc n) (y ∷ l) (suc i) x h = ap (λ (r : List A). y ∷ r) (entries-set b n l i x (omega arith))
+
+-- what was made of the first of a list, with one more
+pub took-more : {A B : Type 0} (b : B) (f : A → B) (n : ℕ) (l : List A) (i : ℕ) (d : A) → i < length l → i < n
+    → set (entries b n (map f (take i l))) i (f (getD l i d)) ≡ entries b n (map f (take (suc i) l))
+unfolding entries
+took-more b f zero l i d h k = absurd (omega arith)
+took-more b f (suc n) [] i d h k = absurd (omega arith)
+took-more b f (suc n) (x ∷ l) zero d h k = refl
+took-more {B = B} b f (suc n) (x ∷ l) (suc i) d h k = ap (λ (r : List B). f x ∷ r) (took-more b f n l i d (omega arith) (omega arith))

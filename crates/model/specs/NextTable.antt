@@ -7,8 +7,8 @@ use lib.ListN.{replicate}
 use Rattle.model.specs.Basics.{allHold, check, firstMet, firstRefusal}
 use Rattle.model.specs.Units.{greatestJitter}
 use Rattle.model.specs.Link.{VirtualLink}
-use Rattle.model.specs.Table.{Table, blankTable, sizeChecks}
-use Rattle.model.specs.TableFile.{tableBytes, readTable}
+use Rattle.model.specs.Table.{Table, blankTable}
+use Rattle.model.specs.TableFile.{readTable, Writing, writeTable}
 use Rattle.model.specs.Bounds.{boundsRefusal, hold}
 
 -- "every link of this table, now put on the chosen line, with jitter J + hold − least length, hold being that of its priority". That the
@@ -63,20 +63,15 @@ next t line lines = nextOr (nextRefusal t line lines) t line lines
 
 -- ---- the same from a table file to a table file, with sizes
 
--- the refusals of line and line count, those of the file, those of its table, and 6 of the sizes, last
-unfoldable pub nextFileRefusal : List ℕ → ℕ → ℕ → List ℕ → ℕ
-nextFileRefusal file line lines sizes =
-    firstRefusal (lineRefusal line lines)
-    (firstRefusal (readTable file .refused) (firstRefusal (nextRefusal (readTable file .table) line lines) (firstMet (sizeChecks sizes))))
+-- those of the line and the line count come "before every number of the file"
+unfoldable pub nextFileRefusal : List ℕ → ℕ → ℕ → ℕ
+nextFileRefusal file line lines =
+    firstRefusal (lineRefusal line lines) (firstRefusal (readTable file .refused) (nextRefusal (readTable file .table) line lines))
 
--- a refusal and no bytes, or 0 and those of the next table's file
-pub record NextFile : Type 0 where
-  pub refused : ℕ
-  pub bytes : List ℕ
+-- then the writer's: its 6 is that of the sizes
+unfoldable pub nextFileOr : ℕ → Table → ℕ → ℕ → List ℕ → List ℕ → Writing
+nextFileOr zero t line lines sizes output = writeTable (nextTable t line lines sizes) output
+nextFileOr (suc n) t line lines sizes output = record { refused = suc n; written = 0; output = output }
 
-unfoldable pub nextFileOr : ℕ → Table → ℕ → ℕ → List ℕ → NextFile
-nextFileOr zero t line lines sizes = record { refused = 0; bytes = tableBytes (nextTable t line lines sizes) }
-nextFileOr (suc n) t line lines sizes = record { refused = suc n; bytes = [] }
-
-unfoldable pub nextFile : List ℕ → ℕ → ℕ → List ℕ → NextFile
-nextFile file line lines sizes = nextFileOr (nextFileRefusal file line lines sizes) (readTable file .table) line lines sizes
+unfoldable pub nextFile : List ℕ → ℕ → ℕ → List ℕ → List ℕ → Writing
+nextFile file line lines sizes output = nextFileOr (nextFileRefusal file line lines) (readTable file .table) line lines sizes output

@@ -17,6 +17,7 @@ use Rattle.table_file.specs.Answers.{recordReading}
 use Rattle.table_file.proofs.Back.{read-shown}
 use Rattle.bounds.specs.declared.Bounds.{Bounds as BoundsRecord}
 use Rattle.bounds.specs.Answer.{recordBounds}
+use Rattle.bounds.proofs.Answered.{sizing-refused}
 use Rattle.sheet_numerals.specs.declared.Text.{Text}
 use Rattle.sheet_numerals.specs.Fixed.{recordText}
 use Rattle.sheet_lines.specs.Lines.{linesTo, tableLines, refusalLine}
@@ -32,15 +33,6 @@ cut input =
     ]
 
 -- ---- what the calculation answers
-refused-or : (n : ℕ) (t : Table) → sizedOr n t .refused ≡ n
-unfolding sizedOr
-refused-or zero t = refl
-refused-or (suc n) t = refl
-
-refused-is : (t : Table) → sizing t .refused ≡ boundsRefusal t
-unfolding sizing
-refused-is t = refused-or (boundsRefusal t) t
-
 sized : (t : Table) → boundsRefusal t ≡ 0 → sizing t ≡ sizedOr 0 t
 unfolding sizing
 sized t e = ap (λ (n : ℕ). sizedOr n t) e
@@ -87,7 +79,7 @@ module _ (input : List ℕ) (end : ℕ) (r : ReadingRecord) (n : end ≡ min (le
     answered = said ∙ ap (λ (t : Table). recordBounds (sizing t)) shown
 
     number-is : number ≡ firstRefusal (file .refused) (boundsRefusal (file .table))
-    number-is = first ∙ rw (answered, read, refused-is (file .table))
+    number-is = first ∙ rw (answered, read, sizing-refused (file .table))
 
     whole : sheetOr number (file .table) ≡ sheet input
     unfolding sheet

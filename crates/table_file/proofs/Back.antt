@@ -20,7 +20,7 @@ use Rattle.table.proofs.Shown.{record-shown}
 use Rattle.table_file.specs.Answers.{recordReading, Wrote}
 use Rattle.table_file.proofs.Answers.{accepted, not-refused-passes, not-refused-room}
 
-links-few : (file : List ℕ) → length (readTable file .table .links) ≤ 256
+pub links-few : (file : List ℕ) → length (readTable file .table .links) ≤ 256
 links-few file = go (ℕ-discrete (readTable file .refused) 0)
   where
     go : Dec (readTable file .refused ≡ 0) → length (readTable file .table .links) ≤ 256
