@@ -5,11 +5,9 @@ use Prim.Native.Nat.{ℕ, zero, suc, _≤_}
 use native.Mathlib.Omega.{arith}
 use lib.ListN.{length, length-map, replicate}
 use Rattle.model.specs.Basics.{firstRefusal}
-use Rattle.model.specs.Link.{VirtualLink}
 use Rattle.model.specs.Table.{Table}
-use Rattle.model.specs.TableFile.{Writing, readTable, writeTable}
+use Rattle.model.specs.TableFile.{Writing, readTable}
 use Rattle.model.specs.NextTable.{lineRefusal, nextLink, nextLinks, nextTable, nextRefusal, nextOr, next, nextFileRefusal, nextFileOr, nextFile}
-use Rattle.table.specs.declared.Table.{Table as TableRecord}
 use Rattle.table.specs.View.{viewTable, recordTable}
 use Rattle.table.proofs.Shown.{record-shown}
 use Rattle.table_file.specs.declared.Reading.{Reading as ReadingRecord}

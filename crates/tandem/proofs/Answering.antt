@@ -1,7 +1,6 @@
 -- What the call answers, from what its parts give.
 use mathlib.Core.Path.{_≡_, refl, sym, ap, _∙_}
-use Prim.Native.Nat.{ℕ, zero, suc, _<_}
-use lib.ListN.{getD}
+use Prim.Native.Nat.{ℕ, zero, suc}
 use Rattle.model.specs.Basics.{firstRefusal}
 use Rattle.model.specs.Table.{Table, blankTable}
 use Rattle.model.specs.Bounds.{boundsRefusal, sizing}

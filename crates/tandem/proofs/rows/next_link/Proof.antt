@@ -2,17 +2,14 @@ use borrow.Author.Needs.{needs}
 use Rattle.tandem.proofs.rows.next_link.Statement.{statement}
 use Rattle.tandem.proofs.rows.next_link.Tie as tie
 
-add-jitter : tie.Need-add-jitter
-add-jitter c = search needs
+next-jitter-requires : tie.Need-next-jitter-requires
+next-jitter-requires c κs = search needs
 
-u16-as-u32-requires : tie.Need-u16-as-u32-requires
-u16-as-u32-requires c κs = search needs
-
-sub-jitter : tie.Need-sub-jitter
-sub-jitter c = search needs
+cast-t5 : tie.Need-cast-t5
+cast-t5 c = search needs
 
 returns : tie.Need-returns
-returns c = rw (c .u16-as-u32 .ensures .0)
+returns c = rw (c .next-jitter .ensures)
 
 pub next-link-spec : {M : Type 1} → statement M
-next-link-spec = tie.close (tie.spec add-jitter u16-as-u32-requires sub-jitter returns)
+next-link-spec = tie.close (tie.spec next-jitter-requires cast-t5 returns)

@@ -1,18 +1,18 @@
 use borrow.Author.Needs.{needs}
 use mathlib.Core.Path.{_≡_, refl}
-use Prim.Native.Nat.{_-_, _≤_}
 use native.Mathlib.Omega.{arith}
 use Rattle.model.specs.NextTable.{nextLinks}
 use Rattle.table.specs.View.{viewTable}
-use Rattle.tandem.proofs.Filling.{few, rows-count, fits, hold-given, covers, hold-small, row-made, row-number, too-late, Filled, filled-none, filled-more, all-filled}
+use Rattle.tandem.proofs.Filling.{few, rows-count, fits, hold-small, row-made, row-number, too-late, Filled, filled-none, filled-more, all-filled}
+use Prim.Native.Nat.{_-_, _≤_}
 use Rattle.tandem.proofs.rows.next_rows.Statement.{statement}
 use Rattle.tandem.proofs.rows.next_rows.Tie as tie
 
 abbrev Inv-loop : tie.InvT-loop
-Inv-loop line lines t holds n numbers₀ links₀ i₀ numbers links i = (i ≤ n) × (n ≡ t .count) × Filled (nextLinks (viewTable t) line) numbers links i
+Inv-loop holds line lines t n numbers₀ links₀ late₀ i₀ numbers links late i = (i ≤ n) × (n ≡ t .count) × Filled (nextLinks (viewTable t) line) numbers links late i
 
 abbrev μ-loop : tie.MeasureT-loop
-μ-loop line lines t holds n numbers₀ links₀ i₀ numbers links i = n - i
+μ-loop holds line lines t n numbers₀ links₀ late₀ i₀ numbers links late i = n - i
 
 cast-n : tie.Need-cast-n Inv-loop μ-loop
 cast-n c = search needs
@@ -26,112 +26,102 @@ loop-holds c = (omega arith, refl, filled-none _ _ (c .blank-link .ensures))
 mul-v : tie.Need-mul-v Inv-loop μ-loop
 mul-v c =
     let s = c .before .before .before in
-    let k = few (s .args .t1) (s .args .t2) (s .pre) (s .args .line) in
+    let k = few (s .args .t1) (s .args .holds) (s .pre) (s .args .line) in
     omega arith
 
 element-copy-out-v : tie.Need-element-copy-out-v Inv-loop μ-loop
 element-copy-out-v c =
     let s = c .before .before .before in
-    let k = few (s .args .t1) (s .args .t2) (s .pre) (s .args .line) in
+    let k = few (s .args .t1) (s .args .holds) (s .pre) (s .args .line) in
     omega arith
 
-cast-next-link : tie.Need-cast-next-link Inv-loop μ-loop
-cast-next-link c = search needs
-
-mul-next-link : tie.Need-mul-next-link Inv-loop μ-loop
-mul-next-link c =
-    let s = c .before .before .before .before .before in
-    let o = c .before .before .before .loop in
-    let k = few (s .args .t1) (s .args .t2) (s .pre) (s .args .line) in
-    omega (arith, fits (s .args .t1) (s .args .t2) (s .pre) (s .args .line) (o .i) (omega arith) _ refl .priority-most)
-
-array-read-next-link : tie.Need-array-read-next-link Inv-loop μ-loop
-array-read-next-link c =
-    let s = c .before .before .before .before .before in
-    let o = c .before .before .before .loop in
-    let k = few (s .args .t1) (s .args .t2) (s .pre) (s .args .line) in
-    omega (arith, fits (s .args .t1) (s .args .t2) (s .pre) (s .args .line) (o .i) (omega arith) _ refl .priority-most)
+hold-of-requires : tie.Need-hold-of-requires Inv-loop μ-loop
+hold-of-requires c κs =
+    let s = c .before .before .before .before in
+    let o = c .before .before .loop in
+    let k = few (s .args .t1) (s .args .holds) (s .pre) (s .args .line) in
+    omega (arith, fits (s .args .t1) (s .args .holds) (s .pre) (s .args .line) (o .i) (omega arith) _ refl .priority-most)
 
 next-link-requires : tie.Need-next-link-requires Inv-loop μ-loop
 next-link-requires c κs =
     let s = c .before .before .before .before .before in
     let o = c .before .before .before .loop in
-    let k = few (s .args .t1) (s .args .t2) (s .pre) (s .args .line) in
-    (omega (arith, fits (s .args .t1) (s .args .t2) (s .pre) (s .args .line) (o .i) (omega arith) _ refl, covers (s .args .t1) (s .args .t2) (s .pre) (s .args .line) (o .i) (omega arith) _ refl, hold-given (s .args .t1) (s .args .t2) (s .pre) (s .args .line) (o .i) (omega arith) _ refl), omega (arith, hold-given (s .args .t1) (s .args .t2) (s .pre) (s .args .line) (o .i) (omega arith) _ refl, hold-small (s .args .t1) (s .args .t2) (s .pre) (s .args .line) (o .i) (omega arith) _ refl), fits (s .args .t1) (s .args .t2) (s .pre) (s .args .line) (o .i) (omega arith) _ refl .jitter-most)
+    let k = few (s .args .t1) (s .args .holds) (s .pre) (s .args .line) in
+    let f = fits (s .args .t1) (s .args .holds) (s .pre) (s .args .line) (o .i) (omega arith) _ refl in
+    (hold-small (s .args .t1) (s .args .holds) (s .pre) (s .args .line) _ _ (omega (arith, f .priority-most)) (c .hold-of .ensures), f .jitter-most)
+
+mul-numbers : tie.Need-mul-numbers Inv-loop μ-loop
+mul-numbers c =
+    let s = c .before .before .before .before .before .before .before in
+    let k = few (s .args .t1) (s .args .holds) (s .pre) (s .args .line) in
+    omega arith
+
+element-copy-out-numbers : tie.Need-element-copy-out-numbers Inv-loop μ-loop
+element-copy-out-numbers c =
+    let s = c .before .before .before .before .before .before .before in
+    let k = few (s .args .t1) (s .args .holds) (s .pre) (s .args .line) in
+    omega arith
+
+mul-numbers-2 : tie.Need-mul-numbers-2 Inv-loop μ-loop
+mul-numbers-2 c =
+    let s = c .before .before .before .before .before .before .before .before in
+    let k = few (s .args .t1) (s .args .holds) (s .pre) (s .args .line) in
+    omega arith
+
+array-write-numbers : tie.Need-array-write-numbers Inv-loop μ-loop
+array-write-numbers c =
+    let s = c .before .before .before .before .before .before .before .before in
+    let k = few (s .args .t1) (s .args .holds) (s .pre) (s .args .line) in
+    omega arith
+
+mul-links : tie.Need-mul-links Inv-loop μ-loop
+mul-links c =
+    let s = c .before .before .before .before .before .before .before .before in
+    let k = few (s .args .t1) (s .args .holds) (s .pre) (s .args .line) in
+    omega arith
+
+array-set-from-links : tie.Need-array-set-from-links Inv-loop μ-loop
+array-set-from-links c =
+    let s = c .before .before .before .before .before .before .before .before in
+    let k = few (s .args .t1) (s .args .holds) (s .pre) (s .args .line) in
+    omega arith
+
+add-i : tie.Need-add-i Inv-loop μ-loop
+add-i c =
+    let s = c .before .before .before .before .before .before .before .before in
+    let k = few (s .args .t1) (s .args .holds) (s .pre) (s .args .line) in
+    omega arith
+
+loop-less : tie.Need-loop-less Inv-loop μ-loop
+loop-less c =
+    let s = c .before .before .before .before .before .before .before .before in
+    let k = few (s .args .t1) (s .args .holds) (s .pre) (s .args .line) in
+    omega arith
+
+loop-again : tie.Need-loop-again Inv-loop μ-loop
+loop-again c =
+    let s = c .before .before .before .before .before .before .before .before in
+    let o = c .before .before .before .before .before .before .loop in
+    let k = few (s .args .t1) (s .args .holds) (s .pre) (s .args .line) in (
+      omega arith,
+      refl,
+      filled-more (o .inv .2) (omega (arith, rows-count (s .args .t1) (s .args .holds) (s .pre) (s .args .line))) (omega arith) _ (row-number (s .args .t1) (s .args .holds) (s .pre) (s .args .line) (o .i) (omega arith) _ refl) _ (row-made (s .args .t1) (s .args .holds) (s .pre) (s .args .line) (o .i) (omega arith) _ refl _ _ (c .before .before .before .hold-of .ensures) (c .before .before .next-link .ensures)),
+    )
 
 refused-requires : tie.Need-refused-requires Inv-loop μ-loop
 refused-requires c κs = search needs
 
 returns : tie.Need-returns Inv-loop μ-loop
 returns c =
-    let s = c .before .before .before .before .before .before .before .before .before in
-    let o = c .before .before .before .before .before .before .before .loop in
-    let k = few (s .args .t1) (s .args .t2) (s .pre) (s .args .line) in
-    too-late (s .args .t1) (s .args .t2) (s .pre) (s .args .line) (o .i) (omega arith) _ refl (s .args .lines) _ (c .before .before .before .next-link .ensures) (c .before .if1 .taken) _ (c .refused .ensures)
-
-mul-numbers : tie.Need-mul-numbers Inv-loop μ-loop
-mul-numbers c =
-    let s = c .before .before .before .before .before .before .before .before in
-    let k = few (s .args .t1) (s .args .t2) (s .pre) (s .args .line) in
-    omega arith
-
-element-copy-out-numbers : tie.Need-element-copy-out-numbers Inv-loop μ-loop
-element-copy-out-numbers c =
-    let s = c .before .before .before .before .before .before .before .before in
-    let k = few (s .args .t1) (s .args .t2) (s .pre) (s .args .line) in
-    omega arith
-
-mul-numbers-2 : tie.Need-mul-numbers-2 Inv-loop μ-loop
-mul-numbers-2 c =
-    let s = c .before .before .before .before .before .before .before .before .before in
-    let k = few (s .args .t1) (s .args .t2) (s .pre) (s .args .line) in
-    omega arith
-
-array-write-numbers : tie.Need-array-write-numbers Inv-loop μ-loop
-array-write-numbers c =
-    let s = c .before .before .before .before .before .before .before .before .before in
-    let k = few (s .args .t1) (s .args .t2) (s .pre) (s .args .line) in
-    omega arith
-
-mul-links : tie.Need-mul-links Inv-loop μ-loop
-mul-links c =
-    let s = c .before .before .before .before .before .before .before .before .before in
-    let k = few (s .args .t1) (s .args .t2) (s .pre) (s .args .line) in
-    omega arith
-
-array-set-from-links : tie.Need-array-set-from-links Inv-loop μ-loop
-array-set-from-links c =
-    let s = c .before .before .before .before .before .before .before .before .before in
-    let k = few (s .args .t1) (s .args .t2) (s .pre) (s .args .line) in
-    omega arith
-
-add-i : tie.Need-add-i Inv-loop μ-loop
-add-i c =
-    let s = c .before .before .before .before .before .before .before .before .before in
-    let k = few (s .args .t1) (s .args .t2) (s .pre) (s .args .line) in
-    omega arith
-
-loop-less : tie.Need-loop-less Inv-loop μ-loop
-loop-less c =
-    let s = c .before .before .before .before .before .before .before .before .before in
-    let k = few (s .args .t1) (s .args .t2) (s .pre) (s .args .line) in
-    omega arith
-
-loop-again : tie.Need-loop-again Inv-loop μ-loop
-loop-again c =
-    let s = c .before .before .before .before .before .before .before .before .before in
-    let o = c .before .before .before .before .before .before .before .loop in
-    let k = few (s .args .t1) (s .args .t2) (s .pre) (s .args .line) in (
-      omega arith,
-      refl,
-      filled-more (o .inv .2) (omega (arith, rows-count (s .args .t1) (s .args .t2) (s .pre) (s .args .line))) (omega arith) _ (row-number (s .args .t1) (s .args .t2) (s .pre) (s .args .line) (o .i) (omega arith) _ refl) _ (row-made (s .args .t1) (s .args .t2) (s .pre) (s .args .line) (o .i) (omega arith) _ refl _ (c .before .before .before .next-link .ensures)) (omega arith),
-    )
+    let s = c .before .before .before .before .before in
+    let o = c .before .before .before .loop in
+    too-late (s .args .t1) (s .args .holds) (s .pre) (s .args .line) (s .args .lines) (o .numbers) (o .links) (o .late) (o .i) (o .inv .2) (omega arith) (c .before .if1 .taken) _ (c .refused .ensures)
 
 returns-2 : tie.Need-returns-2 Inv-loop μ-loop
 returns-2 c =
-    let s = c .before .before .before in
-    let o = c .before .loop in
-    all-filled (s .args .t1) (s .args .t2) (s .pre) (s .args .line) (s .args .lines) (o .numbers) (o .links) (o .i) (o .inv .2) (omega arith)
+    let s = c .before .before .before .before in
+    let o = c .before .before .loop in
+    all-filled (s .args .t1) (s .args .holds) (s .pre) (s .args .line) (s .args .lines) (o .numbers) (o .links) (o .late) (o .i) (o .inv .2) (omega arith) (c .if1 .left)
 
 pub next-rows-spec : {M : Type 1} → statement M
 next-rows-spec =
@@ -144,12 +134,8 @@ next-rows-spec =
     loop-holds
     mul-v
     element-copy-out-v
-    cast-next-link
-    mul-next-link
-    array-read-next-link
+    hold-of-requires
     next-link-requires
-    refused-requires
-    returns
     mul-numbers
     element-copy-out-numbers
     mul-numbers-2
@@ -159,4 +145,6 @@ next-rows-spec =
     add-i
     loop-less
     loop-again
+    refused-requires
+    returns
     returns-2)
