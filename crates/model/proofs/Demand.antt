@@ -1,6 +1,5 @@
 -- Demand 3, over every list of reports.
-use mathlib.Core.Path.{_≡_, refl, sym, ap, _∙_}
-use mathlib.Core.Logic.{_≢_}
+use mathlib.Core.Path.{_≡_, refl, sym, _∙_}
 use mathlib.Core.Bool.{Bool, true, false, cond, _&&_, not}
 use mathlib.Core.Option.{Option, none, some}
 use mathlib.Core.List.{List, [], _∷_, _++_}
@@ -9,24 +8,21 @@ use native.Mathlib.Nat.{le-refl, le-trans}
 use native.Mathlib.Decide.{ℕ-discrete}
 use native.Mathlib.Omega.{arith}
 use lib.Dec.{eqb}
-use borrow.Author.Tests.{eq-eqb, ne-eqb, eqb-true}
-use lib.ListN.{length, set, replicate}
+use borrow.Author.Tests.{eq-eqb, eqb-true}
+use lib.ListN.{length, replicate}
 use lib.Seq.{getD-set-same, getD-set-other}
 use Rattle.model.specs.Basics.{Each}
 use Rattle.model.specs.Units.{occupied}
-use Rattle.model.specs.Link.{VirtualLink, bag, linkAt}
+use Rattle.model.specs.Link.{VirtualLink, linkAt}
 use Rattle.model.specs.Table.{Table, sizeOf}
 use Rattle.model.specs.Bounds.{longest, blocking, orZero, hold, bound}
 use Rattle.model.specs.Machine.{Frame, idle, Scheduler, Departure, queueOf, queuedLast, advance, stored, bytes, held}
-use Rattle.model.specs.Port.{Account, Port, accountAt, markOf, fresh}
+use Rattle.model.specs.Port.{Port, markOf, fresh}
 use Rattle.model.specs.Report.{Report, wait, frame, tickOf, Judged, storedIf, Call, Stepped, arrived}
-use Rattle.model.specs.Run.{Entry, run, accepted, frameIf, storedBy, policedBy, droppedBy, passedBy, throughBy, without, withoutAll, andLast, heldFrames, isPriority, hasPriority, only, heldOf, mostHeld, andTick, ticksOf, KeepBagAndJitter, LinkKeeps, Always, start, then}
+use Rattle.model.specs.Run.{Entry, run, accepted, frameIf, storedBy, droppedBy, passedBy, without, withoutAll, andLast, heldFrames, isPriority, hasPriority, only, heldOf, mostHeld, Always, start, then}
 use Rattle.model.specs.Promises.{DemandThree}
 use Rattle.model.proofs.Holds.{hold-is, HasBounds, has-bounds}
-use Rattle.model.proofs.Curves.{occupied-weight}
 use Rattle.model.proofs.Passed.{Passed}
-use Rattle.model.proofs.Gate.{numbers-apart, renewed, reduced, after-set, full-at}
-use Rattle.model.proofs.Keeping.{keeping-before, Paid, paid-start, paid-covers, paid-charged}
 use Rattle.model.proofs.Passing.{Passing, is-passing}
 use Rattle.model.proofs.Queues.{up-none}
 use Rattle.model.proofs.BusyPeriod.{Sound, Before, over}
@@ -37,6 +33,7 @@ use Rattle.model.proofs.Ledger.{Booked, booked-put, ticks-booked}
 use Rattle.model.proofs.Stepping.{Admitted, policedPort, chargedPort, priorityAt, Judgement, filters, polices, drops, stores, Timely, Arrives, movedTo, reached, freedBy, Stepping, refuses, waits, frames, stepping}
 use Rattle.model.proofs.Log.{entryOf, taken, declined, departures-taken, departures-declined, frame-declined, not-accepted, andPassed, passedFrames}
 use Rattle.model.proofs.Invariant.{Ordered, Invariant, moved-ordered, meets-its-queue, grown, step-kept, fresh-kept, empty-queues, no-marks}
+use Rattle.model.proofs.Paying.{not-policed}
 use Rattle.model.proofs.Levels.{upPassed, ownPassed, Levels, held-bound, advance-levels, lost-levels, stored-levels}
 
 -- ---- departures only lessen what is held
@@ -57,33 +54,6 @@ unfolding withoutAll
 withoutAll-bytes weight test [] l = le-refl (bytes weight (only test l))
 withoutAll-bytes weight test (d ∷ ds) l = le-trans (withoutAll-bytes weight test ds (without (d .number) l)) (without-bytes weight test (d .number) l)
 
--- ---- ticks of the frames of a number
-pub ticks-none : (given : Entry → Option Frame) (n : ℕ) (e : Entry) (log : List Entry) → given e ≡ none → ticksOf given n (e ∷ log) ≡ ticksOf given n log
-unfolding ticksOf andTick
-ticks-none given n e log x = rw x
-
-pub ticks-same : (given : Entry → Option Frame) (n : ℕ) (e : Entry) (log : List Entry) (f : Frame) → given e ≡ some f → f .number ≡ n
-    → ticksOf given n (e ∷ log) ≡ ticksOf given n log ++ (f .arrival ∷ [])
-unfolding ticksOf andTick
-ticks-same given n e log f x y = rw (x, eq-eqb (f .number) n y)
-
-pub ticks-other : (given : Entry → Option Frame) (n : ℕ) (e : Entry) (log : List Entry) (f : Frame) → given e ≡ some f → (f .number ≡ n → ⊥)
-    → ticksOf given n (e ∷ log) ≡ ticksOf given n log
-unfolding ticksOf andTick
-ticks-other given n e log f x y = rw (x, ne-eqb (f .number) n y)
-
-keeping-past : (v : VirtualLink) (e : Entry) (log : List Entry) → LinkKeeps v (e ∷ log) → LinkKeeps v log
-unfolding ticksOf andTick
-keeping-past v e log k = go (throughBy e) k
-  where
-    go : (o : Option Frame) → KeepBagAndJitter v (andTick (v .number) o (ticksOf throughBy (v .number) log)) → KeepBagAndJitter v (ticksOf throughBy (v .number) log)
-    go none k = k
-    go (some f) k = pick (eqb (f .number) (v .number)) k
-      where
-        pick : (x : Bool) → KeepBagAndJitter v (cond x (ticksOf throughBy (v .number) log ++ (f .arrival ∷ [])) (ticksOf throughBy (v .number) log)) → KeepBagAndJitter v (ticksOf throughBy (v .number) log)
-        pick true k = keeping-before v (ticksOf throughBy (v .number) log) (f .arrival) k
-        pick false k = k
-
 -- ---- what is kept beside the invariant
 
 -- the clauses of demand 3 about what came before
@@ -91,20 +61,12 @@ pub record SaidSoFar (t : Table) (log : List Entry) : Type 0 where
   pub within : (p : ℕ) → p < 8 → mostHeld t p log ≤ bound t p
   pub in-time : (p : ℕ) → p < 8 → Always (λ e log. accepted (e .answer) ≡ true → Each (λ f. tickOf (e .report) < f .arrival + hold t p) (heldOf t p (e ∷ log))) log
   pub no-drop : (p : ℕ) → p < 8 → bound t p ≤ sizeOf t p → Always (λ e log. (f : Frame) → droppedBy e ≡ some f → hasPriority t p f ≡ true → ⊥) log
-  pub not-policed : (i : ℕ) → i < length (t .links) → LinkKeeps (linkAt (t .links) i) log
-      → Always (λ e log. (f : Frame) → policedBy e ≡ some f → f .number ≡ linkAt (t .links) i .number → ⊥) log
-
--- links that kept BAG and jitter can pay
-abbrev pub AllPaid : Table → List Account → List Entry → Type 0
-AllPaid t accounts log = (i : ℕ) → i < length (t .links) → LinkKeeps (linkAt (t .links) i) log
-    → Paid (linkAt (t .links) i) (ticksOf throughBy (linkAt (t .links) i .number) log) (accountAt accounts i)
 
 pub record DemandKept (t : Table) (s : Port) (log : List Entry) : Type 0 where
   pub invariant : Invariant t s log
   pub levels : Levels t (passedFrames t log) (s .scheduler)
   pub booked : Booked t (heldFrames log) (s .scheduler .queues)
   pub marked : (p : ℕ) → p < 8 → markOf s p ≡ mostHeld t p log
-  pub paid : AllPaid t (s .gate .accounts) log
   pub said : SaidSoFar t log
 
 -- what a buffer holds is at most the most that it has held
@@ -119,17 +81,14 @@ module _ (t : Table) (log : List Entry) (e : Entry) (s : Port) (i' : Invariant t
       → ((p : ℕ) → p < 8 → markOf s p ≡ max (mostHeld t p log) (held (queueOf (s .scheduler .queues) p)))
       → (accepted (e .answer) ≡ true → tickOf (e .report) ≡ s .scheduler .clock)
       → ((p : ℕ) → p < 8 → bound t p ≤ sizeOf t p → (f : Frame) → droppedBy e ≡ some f → hasPriority t p f ≡ true → ⊥)
-      → ((i : ℕ) → i < length (t .links) → LinkKeeps (linkAt (t .links) i) (e ∷ log) → (f : Frame) → policedBy e ≡ some f → f .number ≡ linkAt (t .links) i .number → ⊥)
-      → AllPaid t (s .gate .accounts) (e ∷ log)
       → SaidSoFar t log → DemandKept t s (e ∷ log)
   unfolding mostHeld heldOf
-  finish levels books mark time drop police paid said =
+  finish levels books mark time drop said =
       record {
         invariant = i';
         levels = levels;
         booked = books;
         marked = λ p m. rw (books .books p m) (mark p m);
-        paid = paid;
         said =
             record {
               within =
@@ -142,14 +101,13 @@ module _ (t : Table) (log : List Entry) (e : Entry) (s : Port) (i' : Invariant t
                   (level-hold p (blocking t p) (hold t p) (upPassed p (passedFrames t (e ∷ log))) (ownPassed p (passedFrames t (e ∷ log))) (s .scheduler) (levels p m) p (le-refl p)))
                   (said .in-time p m);
               no-drop = λ p m n. then {e = e} {log = log} (drop p m n) (said .no-drop p m n);
-              not-policed = λ i l x. then {e = e} {log = log} (police i l x) (said .not-policed i l (keeping-past (linkAt (t .links) i) e log x));
             };
       }
 
 -- ---- a report
 module _ (t : Table) (b : HasBounds t) (v : Passing t) (s : Port) (log : List Entry) (k : DemandKept t s log) (list : List ℕ) where
   refused-kept : (r : Report) (n : ℕ) → Invariant t s (declined r n list ∷ log) → DemandKept t s (declined r n list ∷ log)
-  unfolding heldFrames andLast withoutAll storedBy droppedBy policedBy throughBy passedFrames passedBy andPassed
+  unfolding heldFrames andLast withoutAll storedBy droppedBy passedFrames passedBy andPassed
   refused-kept r n i' =
       finish t log (declined r n list) s i'
       (rw (frame-declined (λ verdict. not (eqb verdict 1) && not (eqb verdict 2)) r n) (k .levels))
@@ -157,8 +115,6 @@ module _ (t : Table) (b : HasBounds t) (v : Passing t) (s : Port) (log : List En
       (λ p m. omega (arith, k .marked p m, held-most t log (s .scheduler .queues) (k .booked) p m))
       (λ x. absurd (let z : _≡_ {A = ℕ} 0 1 = let w : false ≡ true = sym (not-accepted n) ∙ x in cc in omega arith))
       (λ p m i f x. absurd (let z : _≡_ {A = ℕ} 0 1 = let w : _≡_ {A = Option Frame} none (some f) = sym (frame-declined (eqb 3) r n) ∙ x in cc in omega arith))
-      (λ i l j f x. absurd (let z : _≡_ {A = ℕ} 0 1 = let w : _≡_ {A = Option Frame} none (some f) = sym (frame-declined (eqb 2) r n) ∙ x in cc in omega arith))
-      (λ i l. rw (ticks-none throughBy (linkAt (t .links) i .number) (declined r n list) log (frame-declined (λ verdict. not (eqb verdict 1)) r n)) (k .paid i l))
       (k .said)
 
   module _ (time : ℕ) (timely : Timely s time) where
@@ -190,15 +146,13 @@ module _ (t : Table) (b : HasBounds t) (v : Passing t) (s : Port) (log : List En
     books-taken r verdict queues x = rw (departures-taken r verdict out list) x
 
     waited-kept : Invariant t (movedTo s time) (taken (wait time) 0 out list ∷ log) → DemandKept t (movedTo s time) (taken (wait time) 0 out list ∷ log)
-    unfolding andLast storedBy droppedBy policedBy throughBy frameIf passedFrames passedBy andPassed tickOf
+    unfolding andLast storedBy droppedBy frameIf passedFrames passedBy andPassed tickOf
     waited-kept i' =
         finish t log (taken (wait time) 0 out list) (movedTo s time) i' levels
         (books-taken (wait time) 0 (st .queues) books)
         (λ p m. omega (arith, k .marked p m, less p m))
         (λ _. sym there)
         (λ p m n f x. absurd (let z : _≡_ {A = ℕ} 0 1 = cc in omega arith))
-        (λ i l j f x. absurd (let z : _≡_ {A = ℕ} 0 1 = cc in omega arith))
-        (λ i l. rw (ticks-none throughBy (linkAt (t .links) i .number) (taken (wait time) 0 out list) log refl) (k .paid i l))
         (k .said)
 
     module _ (line number len : ℕ) (arrives : Arrives t s time line len) where
@@ -212,63 +166,29 @@ module _ (t : Table) (b : HasBounds t) (v : Passing t) (s : Port) (log : List En
       port = reached s time line
 
       filtered-kept : Invariant t port (this 1 ∷ log) → DemandKept t port (this 1 ∷ log)
-      unfolding andLast storedBy droppedBy policedBy throughBy frameIf accepted passedFrames passedBy andPassed tickOf
+      unfolding andLast storedBy droppedBy frameIf accepted passedFrames passedBy andPassed tickOf
       filtered-kept i' =
           finish t log (this 1) port i' levels
           (books-taken (frame time line number len) 1 (st .queues) books)
           (λ p m. omega (arith, k .marked p m, less p m))
           (λ _. sym there)
           (λ p m n f x. absurd (let z : _≡_ {A = ℕ} 0 1 = cc in omega arith))
-          (λ i l j f x. absurd (let z : _≡_ {A = ℕ} 0 1 = cc in omega arith))
-          (λ i l. rw (ticks-none throughBy (linkAt (t .links) i .number) (this 1) log refl) (k .paid i l))
           (k .said)
 
       module _ (i : ℕ) (a : Admitted t line number len i) where
         abbrev vl : VirtualLink
         vl = linkAt (t .links) i
 
-        abbrev known : List ℕ
-        known = ticksOf throughBy (vl .number) log
-
-        ticked : accountAt (s .gate .accounts) i .tick ≤ time
-        ticked = omega (arith, k .invariant .good occupied occupied-weight (λ _. true) .account-past i (a .at-place), timely .from)
-
-        -- another link's number
-        another : (j : ℕ) → j < length (t .links) → j ≢ i → number ≡ linkAt (t .links) j .number → ⊥
-        another j l n e = numbers-apart (t .links) (v .rising) j i l (a .at-place) n (sym (a .named ∙ e))
-
-        -- the accounts after a frame that the filter let through: the link's own is set, the others stay
-        paid-set : (e : Entry) → throughBy e ≡ some it → (account : Account)
-            → (KeepBagAndJitter vl (known ++ (time ∷ [])) → Paid vl (known ++ (time ∷ [])) account) → AllPaid t (set (s .gate .accounts) i account) (e ∷ log)
-        paid-set e x account own =
-            after-set (λ j account. LinkKeeps (linkAt (t .links) j) (e ∷ log) → Paid (linkAt (t .links) j) (ticksOf throughBy (linkAt (t .links) j .number) (e ∷ log)) account)
-            (length (t .links)) (s .gate .accounts) (record { credit = 0; tick = 0 }) i account (k .invariant .good occupied occupied-weight (λ _. true) .accounts-length) (a .at-place)
-            (λ keeps. let q = ticks-same throughBy (vl .number) e log it x (sym (a .named)) in rw q (own (rw q at keeps)))
-            (λ j l n keeps. let q = ticks-other throughBy (linkAt (t .links) j .number) e log it x (another j l n) in rw q (k .paid j l (rw q at keeps)))
-
-        -- ---- policed
-        broken : renewed (t .links) (s .gate) i time .credit < bag vl → KeepBagAndJitter vl (known ++ (time ∷ [])) → ⊥
-        broken c keeps =
-            omega (arith, paid-covers vl known (accountAt (s .gate .accounts) i) time keeps ticked (k .paid i (a .at-place) (keeping-before vl known time keeps)))
-
-        policed-kept : renewed (t .links) (s .gate) i time .credit < bag vl → Invariant t (policedPort t port i time) (this 2 ∷ log)
+        policed-kept : Invariant t (policedPort t port i time) (this 2 ∷ log)
             → DemandKept t (policedPort t port i time) (this 2 ∷ log)
-        unfolding andLast storedBy droppedBy policedBy throughBy frameIf accepted passedFrames passedBy andPassed tickOf
-        policed-kept c i' =
+        unfolding andLast storedBy droppedBy frameIf accepted passedFrames passedBy andPassed tickOf
+        policed-kept i' =
             finish t log (this 2) (policedPort t port i time) i' levels
             (books-taken (frame time line number len) 2 (st .queues) books)
             (λ p m. omega (arith, k .marked p m, less p m))
             (λ _. sym there)
             (λ p m n f x. absurd (let z : _≡_ {A = ℕ} 0 1 = cc in omega arith))
-            (λ j l keeps f x y. sentenced j l keeps (ℕ-discrete j i) (let w : it ≡ f = cc in ap (λ (g : Frame). g .number) w ∙ y))
-            (paid-set (this 2) refl (renewed (t .links) (s .gate) i time) (λ keeps. absurd (broken c keeps)))
             (k .said)
-          where
-            sentenced : (j : ℕ) → j < length (t .links) → LinkKeeps (linkAt (t .links) j) (this 2 ∷ log) → Dec (j ≡ i) → number ≡ linkAt (t .links) j .number → ⊥
-            sentenced j l keeps (yes e) y =
-                let own : LinkKeeps vl (this 2 ∷ log) = rw e at keeps in
-                broken c (rw (ticks-same throughBy (vl .number) (this 2) log it refl (sym (a .named))) at own)
-            sentenced j l keeps (no n) y = another j l n y
 
         -- ---- passed
         abbrev p : ℕ
@@ -308,25 +228,15 @@ module _ (t : Table) (b : HasBounds t) (v : Passing t) (s : Port) (log : List En
         grows : held (queueOf (queuedLast (st .queues) p it) p) ≡ held (queueOf (st .queues) p) + occupied len
         grows = grown t v (movedTo s time) ordered time line number len i there (arrives .long) a
 
-        abbrev fee : Account
-        fee = reduced (t .links) (s .gate) i time
-
-        paid-passed : bag vl ≤ renewed (t .links) (s .gate) i time .credit → (e : Entry) → throughBy e ≡ some it → AllPaid t (set (s .gate .accounts) i fee) (e ∷ log)
-        paid-passed c e x =
-            paid-set e x fee
-            (λ keeps. paid-charged vl known (accountAt (s .gate .accounts) i) time ticked c (k .paid i (a .at-place) (keeping-before vl known time keeps)))
-
-        dropped-kept : bag vl ≤ renewed (t .links) (s .gate) i time .credit → sizeOf t p < held (queueOf (st .queues) p) + occupied len
+        dropped-kept : sizeOf t p < held (queueOf (st .queues) p) + occupied len
             → Invariant t (chargedPort t port i time) (this 3 ∷ log) → DemandKept t (chargedPort t port i time) (this 3 ∷ log)
-        unfolding andLast storedBy droppedBy policedBy throughBy frameIf accepted passedFrames passedBy tickOf
-        dropped-kept c full i' =
+        unfolding andLast storedBy droppedBy frameIf accepted passedFrames passedBy tickOf
+        dropped-kept full i' =
             finish t log (this 3) (chargedPort t port i time) i' without-it
             (books-taken (frame time line number len) 3 (st .queues) books)
             (λ q m. omega (arith, k .marked q m, less q m))
             (λ _. sym there)
             (λ q m n f x o. lost q m n (let w : it ≡ f = cc in rw (← w) at o))
-            (λ j l keeps f x. absurd (let z : _≡_ {A = ℕ} 0 1 = cc in omega arith))
-            (paid-passed c (this 3) refl)
             (k .said)
           where
             -- with it the buffer would still be within its bound
@@ -336,17 +246,15 @@ module _ (t : Table) (b : HasBounds t) (v : Passing t) (s : Port) (log : List En
                 let n' : bound t p ≤ sizeOf t p = rw e n in
                 omega (arith, grows, held-bound t passing (stored st p it) (chargedPort t port i time .gate) sound-with-it (i' .good) with-it p p-below)
 
-        stored-kept : bag vl ≤ renewed (t .links) (s .gate) i time .credit → Invariant t (storedIf true (chargedPort t port i time) p it .port) (this 0 ∷ log)
+        stored-kept : Invariant t (storedIf true (chargedPort t port i time) p it .port) (this 0 ∷ log)
             → DemandKept t (storedIf true (chargedPort t port i time) p it .port) (this 0 ∷ log)
-        unfolding andLast storedBy droppedBy policedBy throughBy frameIf accepted passedFrames passedBy tickOf storedIf
-        stored-kept c i' =
+        unfolding andLast storedBy droppedBy frameIf accepted passedFrames passedBy tickOf storedIf
+        stored-kept i' =
             finish t log (this 0) (storedIf true (chargedPort t port i time) p it .port) i' with-it
             (books-taken (frame time line number len) 0 (queuedLast (st .queues) p it) (booked-put t (withoutAll out (heldFrames log)) (st .queues) p it p-in of-p books))
             (λ q m. marks-are q m (ℕ-discrete q p))
             (λ _. sym there)
             (λ q m n f x. absurd (let z : _≡_ {A = ℕ} 0 1 = cc in omega arith))
-            (λ j l keeps f x. absurd (let z : _≡_ {A = ℕ} 0 1 = cc in omega arith))
-            (paid-passed c (this 0) refl)
             (k .said)
           where
             after : Port
@@ -363,9 +271,9 @@ module _ (t : Table) (b : HasBounds t) (v : Passing t) (s : Port) (log : List En
       judged-kept : {j : Judged} → Judgement t port time line number len j → Invariant t (j .port) (this (j .verdict) ∷ log) → DemandKept t (j .port) (this (j .verdict) ∷ log)
       unfolding storedIf
       judged-kept filters i' = filtered-kept i'
-      judged-kept (polices i a c) i' = policed-kept i a c i'
-      judged-kept (drops i a c full) i' = dropped-kept i a c full i'
-      judged-kept (stores i a c room) i' = stored-kept i a c i'
+      judged-kept (polices i a c) i' = policed-kept i a i'
+      judged-kept (drops i a c full) i' = dropped-kept i a full i'
+      judged-kept (stores i a c room) i' = stored-kept i a i'
 
   kept-after : {r : Report} {x : Stepped} → Stepping t s list r x → Invariant t (x .port) (entryOf r x ∷ log) → DemandKept t (x .port) (entryOf r x ∷ log)
   kept-after (refuses {r = r} n) i' = refused-kept r n i'
@@ -374,7 +282,7 @@ module _ (t : Table) (b : HasBounds t) (v : Passing t) (s : Port) (log : List En
 
 -- ---- the fresh port
 fresh-demand : (t : Table) → HasBounds t → DemandKept t (fresh t) []
-unfolding fresh heldFrames only mostHeld ticksOf passedFrames Before
+unfolding fresh heldFrames only mostHeld passedFrames Before
 fresh-demand t b =
     record {
       invariant = fresh-kept t;
@@ -384,13 +292,11 @@ fresh-demand t b =
           (omega (arith, hold-is t p (hold t p) (b .holds p m) .least-is)) (fresh-kept t .ordered .sound .frames) (up-none p (replicate 8 []) (λ q _. empty-queues 8 q)) tt;
       booked = record { books = λ p m. rw (empty-queues 8 p) };
       marked = λ p m. no-marks 8 p;
-      paid = λ i l keeps. rw (full-at (t .links) i l) (paid-start (linkAt (t .links) i));
       said =
           record {
             within = λ p m. omega arith;
             in-time = λ p m. start;
             no-drop = λ p m n. start;
-            not-policed = λ i l keeps. start;
           };
     }
 
@@ -414,5 +320,5 @@ demand-three t e calls =
       mark = k .marked;
       in-time = k .said .in-time;
       no-drop = k .said .no-drop;
-      not-policed = k .said .not-policed;
+      not-policed = not-policed t (is-passing t (has-bounds t e .table)) calls;
     }

@@ -29,7 +29,8 @@ use Rattle.model.proofs.Stepping.{Admitted, Judgement, filters, polices
 use Rattle.model.proofs.Log.{entryOf, taken, declined, departures-taken, departures-declined, frame-declined, passedFrames}
 use Rattle.model.proofs.Invariant.{Invariant, run-kept}
 use Rattle.model.proofs.Levels.{upPassed, ownPassed, Leveled, tick-leveled}
-use Rattle.model.proofs.Demand.{ticks-none, ticks-same, ticks-other, DemandKept, run-demand}
+use Rattle.model.proofs.Paying.{ticks-none, ticks-same, ticks-other}
+use Rattle.model.proofs.Demand.{DemandKept, run-demand}
 
 -- ---- each departure in time
 module _ (t : Table) (b : HasBounds t) (s : Port) (log : List Entry) (k : DemandKept t s log) where
@@ -61,10 +62,10 @@ departures-in-time t e calls = in-time t (has-bounds t e) calls
 -- ---- consecutive departures a length apart
 
 -- the departures so far, whatever follows a length after the last; the sender is free from the last on
-record Sparse (ds : List Departure) (st : Scheduler) : Type 0 where
-  last : ℕ
-  spaced : (more : List Departure) → Spaced last more → Spaced 0 (ds ++ more)
-  free : FreeFrom last (st .clock) (st .sender)
+pub record Sparse (ds : List Departure) (st : Scheduler) : Type 0 where
+  pub last : ℕ
+  pub spaced : (more : List Departure) → Spaced last more → Spaced 0 (ds ++ more)
+  pub free : FreeFrom last (st .clock) (st .sender)
 
 module _ (t : Table) (s : Port) (ds : List Departure) (sound : Sound (longest t) (s .scheduler)) (k : Sparse ds (s .scheduler)) where
   advance-sparse : (time : ℕ) → Sparse (ds ++ freedBy s time) (advance time (s .scheduler) .scheduler)
@@ -87,7 +88,7 @@ module _ (t : Table) (s : Port) (ds : List Departure) (sound : Sound (longest t)
   step-sparse list (frames time line number len timely arrives {j = j} x) =
       rw (departures-taken (frame time line number len) (j .verdict) (freedBy s time) list) (judged-sparse time line number len x)
 
-run-sparse : (t : Table) → Passing t → (calls : List Call) → Sparse (allDepartures (run t calls .log)) (run t calls .port .scheduler)
+pub run-sparse : (t : Table) → Passing t → (calls : List Call) → Sparse (allDepartures (run t calls .log)) (run t calls .port .scheduler)
 unfolding run allDepartures fresh FreeFrom
 run-sparse t v [] = record { last = 0; spaced = λ more x. x; free = le-refl 0 }
 run-sparse t v (c ∷ calls) =

@@ -46,6 +46,7 @@ pub mod Invariant
 pub mod Fitness
 pub mod FitKept
 -- ---- demand 3, and what the next switch on the way may count on
+pub mod Paying
 pub mod Levels
 pub mod Demand
 pub mod Later
