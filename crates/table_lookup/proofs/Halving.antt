@@ -13,7 +13,7 @@ use Rattle.table_lookup.specs.declared.Place.the-variants.{At, Nowhere}
 use Rattle.table_lookup.specs.Places.{Rising, Found}
 
 -- ---- the first link that has it
-place-at : (n : ℕ) (links : List VirtualLink) (k : ℕ) → k < length links → linkAt links k .number ≡ n
+pub place-at : (n : ℕ) (links : List VirtualLink) (k : ℕ) → k < length links → linkAt links k .number ≡ n
     → ((j : ℕ) → j < k → linkAt links j .number ≡ n → ⊥) → placeOf n links ≡ some k
 unfolding placeOf further
 place-at n [] k h e before = absurd (omega arith)

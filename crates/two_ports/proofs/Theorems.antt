@@ -1,0 +1,13 @@
+-- The statements of specs/, each under its name.
+use Rattle.two_ports.specs.Promises.{NextPasses, TwoPorts, TwoPortsAmongOthers}
+use Rattle.two_ports.proofs.NextRows as NextRows
+use Rattle.two_ports.proofs.TwoPorts as TwoPorts
+
+pub next-passes : NextPasses
+next-passes = NextRows.next-passes
+
+pub two-ports : TwoPorts
+two-ports = TwoPorts.two-ports
+
+pub two-ports-among-others : TwoPortsAmongOthers
+two-ports-among-others = TwoPorts.two-ports-among-others
