@@ -23,24 +23,25 @@ use Rattle.port_batch.specs.declared.Batched.{Batched as BatchedRecord}
 use Rattle.port_batch.specs.Contracts.{batchFrom, outcomeFrom, Batches}
 use Rattle.port_batch.specs.Calls.{viewAnswer, Chain, begins, goes-on, batches, batch-refused, DemandThreeOfCalls}
 
--- the calls that a chain made
-record Ran (t : TableRecord) (p : PortRecord) (log : List Entry) : Type 0 where
-  calls : List Call
-  is : run (viewTable t) calls ≡ record { port = viewPort p; log = log }
-  table : p .table ≡ t
+-- the calls that a chain made; its table passes
+pub record Ran (t : TableRecord) (p : PortRecord) (log : List Entry) : Type 0 where
+  pub calls : List Call
+  pub is : run (viewTable t) calls ≡ record { port = viewPort p; log = log }
+  pub table : p .table ≡ t
+  pub passes : tableRefusal (viewTable t) ≡ 0
 
 fresh-ran : (t : TableRecord) (f : FreshRecord) → f ≡ recordFresh t → f .refused ≡ 0 → Ran t (f .port) []
 unfolding freshOr run freshPort restingPort
 fresh-ran t f e z = go (tableRefusal (viewTable t)) refl e
   where
     go : (n : ℕ) → tableRefusal (viewTable t) ≡ n → f ≡ freshOr n t → Ran t (f .port) []
-    go zero q x = rw x (record { calls = []; is = ap (λ (s : Port). record { port = s; log = [] }) (sym (fresh-shown t q)); table = refl })
+    go zero q x = rw x (record { calls = []; is = ap (λ (s : Port). record { port = s; log = [] }) (sym (fresh-shown t q)); table = refl; passes = q })
     go (suc n) q x = absurd (let y : suc n ≡ 0 = sym (ap (λ (g : FreshRecord). g .refused) x) ∙ z in omega arith)
 
 call-ran : (t : TableRecord) (p : PortRecord) (log : List Entry) (a : AnswerRecord) (r : Report) (before after : List ℕ) → Ran t p log → Answered p r before after a
     → Ran t (a .port) (record { report = r; answer = viewAnswer a; list = after } ∷ log)
 unfolding run
-call-ran t p log a r before after k x = record { calls = record { report = r; list = before } ∷ k .calls; is = rw (k .is, ← k .table, x .refused, x .verdict, x .frames, x .bytes, x .port, x .list); table = x .table ∙ k .table }
+call-ran t p log a r before after k x = record { calls = record { report = r; list = before } ∷ k .calls; is = rw (k .is, ← k .table, x .refused, x .verdict, x .frames, x .bytes, x .port, x .list); table = x .table ∙ k .table; passes = k .passes }
 
 -- a batch that is not refused
 not-refused : (p : PortRecord) (reports answers list : List ℕ) → outcomeFrom p reports answers list .refused ≡ 0 →
@@ -60,9 +61,10 @@ batch-ran t p log b reports answers answers' list list' k x z =
       calls = m .0;
       is = m .1 ∙ rw (k .is, ← k .table, x .gives .port, not-refused p reports answers list (sym (x .gives .refused) ∙ z));
       table = x .gives .table ∙ k .table;
+      passes = k .passes;
     }
 
-chain-ran : (t : TableRecord) (p : PortRecord) (log : List Entry) → Chain t p log → Ran t p log
+pub chain-ran : (t : TableRecord) (p : PortRecord) (log : List Entry) → Chain t p log → Ran t p log
 chain-ran t p log (begins {f = f} e z) = fresh-ran t f e z
 chain-ran t q log' (goes-on {p = p} {log = log} {a = a} r before after c x) = call-ran t p log a r before after (chain-ran t p log c) x
 chain-ran t q log' (batches {p = p} {log = log} {b = b} reports answers answers' list list' c x z) = batch-ran t p log b reports answers answers' list list' (chain-ran t p log c) x z

@@ -6,5 +6,6 @@ pub mod HandedOver
 pub mod NextRows
 pub mod Onward
 pub mod TwoPorts
+pub mod Called
 -- ---- all theorems under their names
 pub mod Theorems

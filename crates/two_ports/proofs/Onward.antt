@@ -10,7 +10,7 @@ use native.Mathlib.Nat.{le-refl, le-trans}
 use native.Mathlib.Decide.{ℕ-discrete}
 use native.Mathlib.Omega.{arith}
 use lib.Dec.{eqb, leb, ltb}
-use borrow.Author.Tests.{eq-eqb, ne-eqb, le-leb, lt-leb, le-ltb, ltb-true}
+use borrow.Author.Tests.{eq-eqb, le-leb, lt-leb, le-ltb, ltb-true}
 use lib.ListN.{length, set}
 use lib.Seq.{getD-set-same, getD-set-other}
 use Rattle.model.specs.Basics.{firstMet}
@@ -154,10 +154,6 @@ departed number len time = record { number = number; length = len; freed = time 
 pub handed-here : (line time on number len : ℕ) → on ≡ line → handedBy line (frame time on number len) ≡ departed number len time ∷ []
 unfolding handedBy
 handed-here line time on number len e = rw (eq-eqb on line e)
-
-handed-elsewhere : (line time on number len : ℕ) → (on ≡ line → ⊥) → handedBy line (frame time on number len) ≡ []
-unfolding handedBy
-handed-elsewhere line time on number len e = rw (ne-eqb on line e)
 
 -- the line's tick is not after what was last handed over on it
 step-behind : (u : Table) (s : Port) → length (s .gate .lineTicks) ≡ u .lines → (line : ℕ) (list : List ℕ) {r : Report} {x : Stepped} → Stepping u s list r x → (ds : List Departure)
