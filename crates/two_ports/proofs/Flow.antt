@@ -55,7 +55,7 @@ each-oldest {P = P} n f (also {a = g} {l = l} p r) e = go (eqb (g .number) n) re
     go false q e ih = ih e
 
 -- ---- the arrivals of the held frames of a number, the ticks of its departures, in order
-unfoldable pub arrivalsOf : ℕ → List Frame → List ℕ
+unfoldable arrivalsOf : ℕ → List Frame → List ℕ
 arrivalsOf n [] = []
 arrivalsOf n (f ∷ l) = cond (eqb (f .number) n) (f .arrival ∷ arrivalsOf n l) (arrivalsOf n l)
 
@@ -174,10 +174,10 @@ module _ (t : Table) (v : Passing t) (i : ℕ) (in-range : i < length (t .links)
           }
 
   -- over a log: the stored frames of the link are those that left and those that are held
-  pub record Flow (log : List Entry) : Type 0 where
-    pub went : List ℕ
-    pub split : ticksOf storedBy n log ≡ went ++ arrivalsOf n (heldFrames log)
-    pub follows : After went (freedOf n (allDepartures log))
+  record Flow (log : List Entry) : Type 0 where
+    went : List ℕ
+    split : ticksOf storedBy n log ≡ went ++ arrivalsOf n (heldFrames log)
+    follows : After went (freedOf n (allDepartures log))
 
   one-held : (o : Option Frame) (ticks went : List ℕ) (l : List Frame) → ticks ≡ went ++ arrivalsOf n l → andTick n o ticks ≡ went ++ arrivalsOf n (andLast o l)
   unfolding andTick andLast arrivalsOf

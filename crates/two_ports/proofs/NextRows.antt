@@ -21,7 +21,7 @@ use Rattle.model.proofs.Holds.{has-bounds}
 use Rattle.model.proofs.Passing.{is-passing}
 
 -- ---- the rows, place by place
-pub row-at : (t : Table) (line : ℕ) (links : List VirtualLink) (i : ℕ) → i < length links → linkAt (map (nextLink t line) links) i ≡ nextLink t line (linkAt links i)
+row-at : (t : Table) (line : ℕ) (links : List VirtualLink) (i : ℕ) → i < length links → linkAt (map (nextLink t line) links) i ≡ nextLink t line (linkAt links i)
 row-at t line [] i l = absurd (omega arith)
 row-at t line (v ∷ links) zero l = refl
 row-at t line (v ∷ links) (suc i) l = row-at t line links i (omega arith)
