@@ -1,5 +1,4 @@
 -- Demand 3 with the numbers of an answer.
-use Prim.Native.Nat.{ℕ}
 use lib.ListN.{getD}
 use Rattle.model.specs.Table.{Table}
 use Rattle.model.specs.Bounds.{Sizing}
