@@ -49,24 +49,26 @@ pub j : Correct example.j
 unfolding Correct
 j = no-hold (oneBusyLine 941) j-passes 0 (omega arith) j-climbs
 
--- ---- a table by its eight bounds, holds and windows
-record Numbers (t : Table) (b h w : ℕ → ℕ) : Type 0 where
-  has-bounds : boundsRefusal t ≡ 0
-  bound-is : (p : ℕ) → p < 8 → bound t p ≡ b p
-  hold-is : (p : ℕ) → p < 8 → hold t p ≡ h p
-  window-is : (p : ℕ) → p < 8 → window t p ≡ w p
+-- ---- a table by its eight holds
+pub record Held (t : Table) (h : ℕ → ℕ) : Type 0 where
+  pub has-bounds : boundsRefusal t ≡ 0
+  pub hold-is : (p : ℕ) → p < 8 → hold t p ≡ h p
 
--- the holds by climbing n steps
-numbers : (t : Table) (n : ℕ) (b h w : ℕ → ℕ) → tableRefusal t ≡ 0 → allTo (λ p. climbsTo t p n (h p)) 8 ≡ true → ((p : ℕ) → p < 8 → (bound t p ≡ b p) × (window t p ≡ w p)) → Numbers t b h w
+-- by climbing n steps
+pub held : (t : Table) (n : ℕ) (h : ℕ → ℕ) → tableRefusal t ≡ 0 → allTo (λ p. climbsTo t p n (h p)) 8 ≡ true → Held t h
 unfolding isThere hold orZero
-numbers t n b h w passes ends parts =
+held t n h passes ends =
     let found : (p : ℕ) → p < 8 → holdOf t p ≡ some (h p) = λ p l. climbed t p n (h p) (all-to (λ p. climbsTo t p n (h p)) 8 ends p l) in
     record {
       has-bounds = all-holds t passes (λ p l. rw (found p l));
-      bound-is = λ p l. parts p l .0;
       hold-is = λ p l. rw (found p l);
-      window-is = λ p l. parts p l .1;
     }
+
+-- ---- and by its bounds and windows
+record Numbers (t : Table) (b h w : ℕ → ℕ) : Type 0 where
+  holds : Held t h
+  bound-is : (p : ℕ) → p < 8 → bound t p ≡ b p
+  window-is : (p : ℕ) → p < 8 → window t p ≡ w p
 
 module _ {t : Table} {b h w : ℕ → ℕ} (n : Numbers t b h w) where
   eight-same : (f g : ℕ → ℕ) → ((p : ℕ) → p < 8 → f p ≡ g p) → eight f ≡ eight g
@@ -74,17 +76,17 @@ module _ {t : Table} {b h w : ℕ → ℕ} (n : Numbers t b h w) where
 
   sizing-is : sizing t ≡ record { refused = 0; bounds = eight b; holds = eight h; windows = eight w }
   unfolding sizing sizedOr
-  sizing-is = rw (n .has-bounds, eight-same (bound t) b (n .bound-is), eight-same (hold t) h (n .hold-is), eight-same (window t) w (n .window-is))
+  sizing-is = rw (n .holds .has-bounds, eight-same (bound t) b (n .bound-is), eight-same (hold t) h (n .holds .hold-is), eight-same (window t) w (n .window-is))
 
   sheet-is : (input : List ℕ) → readTable (take 4_653 input) ≡ record { refused = 0; table = t }
       → sheet input ≡ header ++ flatMap (λ p. sheetLine p (b p) (h p) (w p) (sizeOf t p)) (eight (λ p. p))
   unfolding sheet sheetOr firstRefusal flatMap
   sheet-is input read =
       let at : (p : ℕ) → p < 8 → sheetLine p (bound t p) (hold t p) (window t p) (sizeOf t p) ≡ sheetLine p (b p) (h p) (w p) (sizeOf t p) =
-      λ p l. rw (n .bound-is p l, n .hold-is p l, n .window-is p l) in
+      λ p l. rw (n .bound-is p l, n .holds .hold-is p l, n .window-is p l) in
       rw (
         read,
-        n .has-bounds,
+        n .holds .has-bounds,
         at 0 (omega arith),
         at 1 (omega arith),
         at 2 (omega arith),
@@ -113,7 +115,7 @@ e-read : readTable (take 4_653 (tableBytes tableE)) ≡ record { refused = 0; ta
 unfolding the-file
 e-read = read-written tableE e-passes
 
-abbrev holdE : ℕ → ℕ
+abbrev pub holdE : ℕ → ℕ
 holdE zero = 1_499
 holdE (suc p) = 1_500
 
@@ -128,9 +130,12 @@ e-parts zero l = (shown.a .1, shown.a .2)
 e-parts (suc zero) l = (shown.b .1, shown.b .2)
 e-parts (suc (suc p)) l = unused tableE (suc (suc p)) (rw (ne-eqb 0 (suc (suc p)) (λ x. omega arith), ne-eqb 1 (suc (suc p)) (λ x. omega arith)))
 
-e-numbers : Numbers tableE boundE holdE (λ p. 0)
+pub e-held : Held tableE holdE
 unfolding the-climb allTo
-e-numbers = numbers tableE 6 boundE holdE (λ p. 0) e-passes refl e-parts
+e-held = held tableE 6 holdE e-passes refl
+
+e-numbers : Numbers tableE boundE holdE (λ p. 0)
+e-numbers = record { holds = e-held; bound-is = λ p l. e-parts p l .0; window-is = λ p l. e-parts p l .1 }
 
 pub sizingE : Correct example.sizingE
 unfolding Correct
@@ -175,9 +180,12 @@ nt-parts (suc (suc (suc zero))) l = (shown.windowNt3 .1, shown.windowNt3 .2)
 nt-parts (suc (suc (suc (suc p)))) l =
     unused tableNt (suc (suc (suc (suc p)))) (rw (ne-eqb 0 (suc (suc (suc (suc p)))) (λ x. omega arith), ne-eqb 3 (suc (suc (suc (suc p)))) (λ x. omega arith)))
 
-nt-numbers : Numbers tableNt boundNt holdNt windowNt
+nt-held : Held tableNt holdNt
 unfolding the-climb allTo
-nt-numbers = numbers tableNt 6 boundNt holdNt windowNt nt-passes refl nt-parts
+nt-held = held tableNt 6 holdNt nt-passes refl
+
+nt-numbers : Numbers tableNt boundNt holdNt windowNt
+nt-numbers = record { holds = nt-held; bound-is = λ p l. nt-parts p l .0; window-is = λ p l. nt-parts p l .1 }
 
 pub sizingNt : Correct example.sizingNt
 unfolding Correct

@@ -21,7 +21,7 @@ use Rattle.model.specs.Fitness.{namesLink, framesFit, senderFit, fit}
 use Rattle.model.specs.Report.{tickOf, frameChecks, reportChecks, allChecks, reportRefusal, admits, admitted, replenished, charged, checkedIf, police, policeAt, hasRoom, storedIf, store, passedIf, judge, judgeReport, bytesFreed, acceptedOr, step}
 use Rattle.model.specs.Run.{run}
 use Rattle.model.specs.Batch.{answerBatch, batchFile}
-use Rattle.model.specs.Examples.{Outcome, Example, gives-bound, gives-hold, gives-sizing, lacks-bounds, gives-answers, gives-held, gives-fates, keeps, breaks, fills, gives-bags, gives-sheet, selects, gives-batch, gives-bytes, outcomes, Correct}
+use Rattle.model.specs.Examples.{Outcome, Example, gives-bound, gives-hold, gives-sizing, lacks-bounds, gives-answers, gives-held, gives-fates, keeps, breaks, fills, gives-bags, gives-sheet, selects, gives-batch, gives-bytes, gives-next, outcomes, Correct}
 use Rattle.model.specs.Examples as example
 use Rattle.model.proofs.Bags.{bag-constants}
 
@@ -61,7 +61,7 @@ computes (gives-bytes file reports answers list refused answersAfter listAfter) 
     let o = batchFile file reports answers list in
     eqb (o .refused) refused && (sameNumbers (o .answers) answersAfter && sameNumbers (o .list) listAfter)
 -- the whole answer is shown from its parts, in ClimbedExamples, the words of demand 3 from the answers, in ClauseExamples, a full buffer
--- in FullExamples, the eight BAGs in Bags, and networks A and B in RedundancyExamples
+-- in FullExamples, the eight BAGs in Bags, networks A and B in RedundancyExamples, and the next table in NextExamples
 computes (gives-sizing t expected) = false
 computes (gives-held t calls p expected) = false
 computes (gives-fates t calls n expected) = false
@@ -70,6 +70,7 @@ computes (breaks t calls i) = false
 computes (fills t calls clock p frames mark) = false
 computes (gives-bags bags) = false
 computes (selects r) = false
+computes (gives-next t line lines expected) = false
 
 numbers-equal : (xs ys : List ℕ) → sameNumbers xs ys ≡ true → xs ≡ ys
 unfolding sameNumbers
@@ -126,6 +127,7 @@ settled (breaks t calls i) e = absurd (let z : _≡_ {A = ℕ} 0 1 = cc in omega
 settled (fills t calls clock p frames mark) e = absurd (let z : _≡_ {A = ℕ} 0 1 = cc in omega arith)
 settled (gives-bags bags) e = absurd (let z : _≡_ {A = ℕ} 0 1 = cc in omega arith)
 settled (selects r) e = absurd (let z : _≡_ {A = ℕ} 0 1 = cc in omega arith)
+settled (gives-next t line lines expected) e = absurd (let z : _≡_ {A = ℕ} 0 1 = cc in omega arith)
 
 -- names for all that an example computes with
 unfoldable pub the-port : ℕ

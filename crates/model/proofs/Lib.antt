@@ -62,4 +62,5 @@ pub mod ClauseExamples
 pub mod ClimbedExamples
 pub mod FullExamples
 pub mod BatchExamples
+pub mod NextExamples
 pub mod Theorems

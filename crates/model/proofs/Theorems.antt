@@ -23,6 +23,7 @@ use Rattle.model.proofs.ClauseExamples as told
 use Rattle.model.proofs.ClimbedExamples as climbed
 use Rattle.model.proofs.FullExamples as full
 use Rattle.model.proofs.BatchExamples as batched
+use Rattle.model.proofs.NextExamples as hopped
 
 pub reads-written : ReadsWritten
 reads-written = ReadBack.read-written
@@ -105,4 +106,4 @@ examples-correct =
     also shown.a (also shown.b (also shown.c (also shown.d (also shown.e (also shown.f (also shown.g (also shown.h (also climbed.i (also climbed.j (also shown.k (also shown.l
     (also shown.m (also shown.n (also shown.o (also shown.p (also shown.q (also shown.r (also shown.s (also shown.t (also shown.u (also shown.v (also shown.w (also shown.x (also shown.y
     (also climbed.sizingE (also shown.windowK (also shown.windowP (also shown.windowO0 (also shown.windowO1 (also shown.windowNt0 (also shown.windowNt3 (also climbed.sizingNt
-    (also full.boundC (also full.filledC (also climbed.sheetE (also climbed.sheetNt (each-of-both told.words-correct (each-of-both selected.selections-correct batched.batches-correct))))))))))))))))))))))))))))))))))))))
+    (also full.boundC (also full.filledC (also climbed.sheetE (also climbed.sheetNt (each-of-both told.words-correct (each-of-both selected.selections-correct (each-of-both batched.batches-correct hopped.hops-correct)))))))))))))))))))))))))))))))))))))))

@@ -1,5 +1,5 @@
 -- The ten marked examples of the paper, a to j, and ours: k to y, windows, a full buffer (table C), whole answers and sheets, the words of
--- demand 3, networks A and B, and batches, as one list.
+-- demand 3, networks A and B, batches, and the next switch on the way, as one list.
 use mathlib.Core.Path.{_≡_}
 use mathlib.Core.Bool.{true}
 use mathlib.Core.List.{List, [], _∷_, _++_, map, reverse}
@@ -8,7 +8,7 @@ use Prim.Native.String.{String}
 use lib.ListN.{length, replicate}
 use Rattle.model.specs.Basics.{eight, Each}
 use Rattle.model.specs.Link.{VirtualLink, bagOf, standardBags, linkAt}
-use Rattle.model.specs.Table.{Table}
+use Rattle.model.specs.Table.{Table, blankTable}
 use Rattle.model.specs.TableFile.{tableBytes}
 use Rattle.model.specs.Bounds.{boundsRefusal, hold, bound, window, Sizing, sizing}
 use Rattle.model.specs.Machine.{Frame, queueOf}
@@ -16,6 +16,7 @@ use Rattle.model.specs.Port.{markOf, fresh}
 use Rattle.model.specs.Fitness.{fit}
 use Rattle.model.specs.Report.{Report, wait, frame, Answer, Call, arrived}
 use Rattle.model.specs.Sheet.{text, sheet}
+use Rattle.model.specs.NextTable.{Next, next}
 use Rattle.model.specs.Run.{Entry, run, storedBy, policedBy, droppedBy, passedBy, throughBy, heldOf, mostHeld, ticksOf, LinkKeeps}
 use Rattle.model.specs.Batch.{answerBatch, bytesOf, batchFile}
 use Rattle.model.specs.RedundancyExamples.{Recording, repliesTo, recordings}
@@ -67,6 +68,8 @@ pub data Example : Type 0 where
   gives-batch : Table → List ℕ → List ℕ → List ℕ → ℕ → List ℕ → List ℕ → ℕ → Example
   -- the same through the C interface, in bytes: a table file, reports, answers, departure list; then 0 or the refusal, and both lists
   gives-bytes : List ℕ → List ℕ → List ℕ → List ℕ → ℕ → List ℕ → List ℕ → Example
+  -- a table, a line and a line count, with what the next port's call gives
+  gives-next : Table → ℕ → ℕ → Next → Example
 
 -- the log of calls in order, the latest first
 abbrev pub logOf : Table → List Call → List Entry
@@ -118,6 +121,7 @@ Correct (gives-batch t reports answers list refused answersAfter listAfter depar
 Correct (gives-bytes file reports answers list refused answersAfter listAfter) =
     let o = batchFile file reports answers list in
     (o .refused ≡ refused) × (o .answers ≡ answersAfter) × (o .list ≡ listAfter)
+Correct (gives-next t line lines expected) = next t line lines ≡ expected
 
 -- ---- shorthand: number, line, priority, greatest length; "All codes and jitter 0 unless named"
 abbrev pub plain : ℕ → ℕ → ℕ → ℕ → VirtualLink
@@ -636,6 +640,93 @@ bytesBadFile = refusesBytes (tableBytes tableE ++ zeros 1) (zeros 39) 0 7
 abbrev pub bytesNone : Example
 bytesNone = gives-bytes (tableBytes tableE) [] (sevens 7) (sevens 55) 0 (sevens 7) (sevens 55)
 
+-- ---- the next switch on the way
+
+abbrev pub onward : ℕ → List VirtualLink → Next
+onward lines rows = record { refused = 0; table = record { lines = lines; links = rows; sizes = replicate 8 0 } }
+
+abbrev pub noNext : ℕ → Next
+noNext n = record { refused = n; table = blankTable }
+
+-- the two links of E on the lines given, with line, code, least length and jitter of the first, and line, code and jitter of the second
+abbrev pub linksE : ℕ → ℕ → ℕ → ℕ → ℕ → ℕ → ℕ → List VirtualLink
+linksE line code least jitter line' code' jitter' =
+    record { number = 1; line = line; priority = 0; code = code; least = least; greatest = 500; jitter = jitter }
+    ∷ record { number = 2; line = line'; priority = 1; code = code'; least = 84; greatest = 1_000; jitter = jitter' }
+    ∷ []
+
+abbrev pub variedE : ℕ → ℕ → ℕ → ℕ → ℕ → Table
+variedE code least jitter code' jitter' = tableOf 2 (linksE 0 code least jitter 1 code' jitter') (2_000 ∷ 2_000 ∷ [])
+
+-- E to line 3 of 5: 0 + 1,499 − 84 and 0 + 1,500 − 84; with link 1's least 100
+abbrev pub nextE : Example
+nextE = gives-next tableE 3 5 (onward 5 (linksE 3 0 84 1_415 3 0 1_416))
+
+abbrev pub nextLeast : Example
+nextLeast = gives-next (variedE 0 100 0 0 0) 3 5 (onward 5 (linksE 3 0 100 1_399 3 0 1_416))
+
+-- link 1 of code 7, least 100 and jitter 123,601: exactly 125,000; with 123,602, 21. So of link 2 alone
+abbrev pub nextMost : Example
+nextMost = gives-next (variedE 7 100 123_601 0 0) 3 5 (onward 5 (linksE 3 7 100 125_000 3 0 1_416))
+
+abbrev pub nextPast : Example
+nextPast = gives-next (variedE 7 100 123_602 0 0) 3 5 (noNext 21)
+
+abbrev pub nextSecond : Example
+nextSecond = gives-next (variedE 0 84 0 7 123_585) 3 5 (noNext 21)
+
+-- 22 first, then 3; line 23 of 24 is there
+abbrev pub nextCount : Example
+nextCount = gives-next tableE 5 5 (noNext 22)
+
+abbrev pub nextNone : Example
+nextNone = gives-next tableE 0 0 (noNext 22)
+
+abbrev pub nextFar : Example
+nextFar = gives-next tableE 30 24 (noNext 22)
+
+abbrev pub nextMany : Example
+nextMany = gives-next tableE 24 25 (noNext 3)
+
+abbrev pub nextLast : Example
+nextLast = gives-next tableE 23 24 (onward 24 (linksE 23 0 84 1_415 23 0 1_416))
+
+-- 8 before 21: priority 0 has a hold, with which link 1's jitter would be 131,953
+abbrev pub jittery : ℕ → ℕ → ℕ → ℕ → VirtualLink
+jittery number line priority greatest = record { number = number; line = line; priority = priority; code = 0; least = 84; greatest = greatest; jitter = 125_000 }
+
+abbrev pub tableJ : Table
+tableJ = tableOf 2 (jittery 1 0 0 500 ∷ jittery 2 1 7 1_538 ∷ jittery 3 1 7 1_538 ∷ jittery 4 1 7 1_538 ∷ []) []
+
+abbrev pub nextUnheld : Example
+nextUnheld = gives-next tableJ 3 5 (noNext 8)
+
+abbrev pub holdJ : Example
+holdJ = gives-hold tableJ 0 7_037
+
+-- two hops: what leaves E, and what the next port does with it; with jitters one less it polices the last
+abbrev pub hopOne : Example
+hopOne =
+    gives-answers tableE (lent (frame 1_000 1 2 1_000) ∷ lent (frame 1_001 0 1 500) ∷ lent (frame 13_501 0 1 84) ∷ lent (wait 20_000) ∷ [])
+    (gives 0 0 0 [] ∷ gives 0 0 0 [] ∷ gives 0 2 1_460 (2 ∷ 1_000 ∷ 2_000 ∷ 1 ∷ 500 ∷ 2_500 ∷ []) ∷ gives 0 1 64 (1 ∷ 84 ∷ 13_585 ∷ []) ∷ [])
+
+abbrev pub callsHop : List Call
+callsHop = lent (frame 2_000 3 2 1_000) ∷ lent (frame 2_500 3 1 500) ∷ lent (frame 13_585 3 1 84) ∷ []
+
+abbrev pub hopTwo : Example
+hopTwo =
+    gives-answers (tableOf 5 (linksE 3 0 84 1_415 3 0 1_416) (2_000 ∷ 2_000 ∷ [])) callsHop
+    (gives 0 0 0 [] ∷ gives 0 0 0 [] ∷ gives 0 2 1_460 (2 ∷ 1_000 ∷ 3_000 ∷ 1 ∷ 500 ∷ 3_500 ∷ []) ∷ [])
+
+abbrev pub hopSharp : Example
+hopSharp =
+    gives-answers (tableOf 5 (linksE 3 0 84 1_414 3 0 1_415) (2_000 ∷ 2_000 ∷ [])) callsHop
+    (gives 0 0 0 [] ∷ gives 0 0 0 [] ∷ gives 2 2 1_460 (2 ∷ 1_000 ∷ 3_000 ∷ 1 ∷ 500 ∷ 3_500 ∷ []) ∷ [])
+
+abbrev pub hops : List Example
+hops =
+    nextE ∷ nextLeast ∷ nextMost ∷ nextPast ∷ nextSecond ∷ nextCount ∷ nextNone ∷ nextFar ∷ nextMany ∷ nextLast ∷ nextUnheld ∷ holdJ ∷ hopOne ∷ hopTwo ∷ hopSharp ∷ []
+
 abbrev pub batches : List Example
 batches =
     batchTwo ∷ batchShort ∷ batchRest ∷ batchGoesOn ∷ batchUncut ∷ batchForm ∷ batchWideForm ∷ batchPart ∷ batchNoRoom ∷ batchBoth ∷ batchNone
@@ -651,7 +742,7 @@ selections = map selects recordings
 abbrev pub examples : List Example
 examples =
     a ∷ b ∷ c ∷ d ∷ e ∷ f ∷ g ∷ h ∷ i ∷ j ∷ k ∷ l ∷ m ∷ n ∷ o ∷ p ∷ q ∷ r ∷ s ∷ t ∷ u ∷ v ∷ w ∷ x ∷ y
-    ∷ sizingE ∷ windowK ∷ windowP ∷ windowO0 ∷ windowO1 ∷ windowNt0 ∷ windowNt3 ∷ sizingNt ∷ boundC ∷ filledC ∷ sheetE ∷ sheetNt ∷ (words ++ (selections ++ batches))
+    ∷ sizingE ∷ windowK ∷ windowP ∷ windowO0 ∷ windowO1 ∷ windowNt0 ∷ windowNt3 ∷ sizingNt ∷ boundC ∷ filledC ∷ sheetE ∷ sheetNt ∷ (words ++ (selections ++ (batches ++ hops)))
 
 abbrev pub ExamplesCorrect : Type 0
 ExamplesCorrect = Each Correct examples
