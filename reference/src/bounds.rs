@@ -101,15 +101,20 @@ pub struct Bounds {
 }
 
 /// "bounds: 3 to 6, then no hold: 8." "If any of the eight has none, the table has no bounds (8)."
-pub fn bounds(table: &Table) -> Result<Bounds, u32> {
+pub fn holds(table: &Table) -> Result<[u64; 8], u32> {
     let refusal = check(table);
     if refusal != 0 {
         return Err(refusal);
     }
-    let mut found = Bounds { bounds: [0; 8], holds: [0; 8], windows: [0; 8] };
+    let mut found = [0; 8];
     for p in 0..8 {
-        found.holds[p] = hold(table, p as u8).ok_or(8u32)?;
+        found[p] = hold(table, p as u8).ok_or(8u32)?;
     }
+    Ok(found)
+}
+
+pub fn bounds(table: &Table) -> Result<Bounds, u32> {
+    let mut found = Bounds { bounds: [0; 8], holds: holds(table)?, windows: [0; 8] };
     for p in 0..8 {
         let amounts = amounts(table, p as u8, found.holds[p]);
         found.bounds[p] = bound(&amounts);

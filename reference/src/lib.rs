@@ -8,6 +8,8 @@ pub mod bounds;
 pub mod cases;
 pub mod examples;
 pub mod memory;
+pub mod next;
+pub mod numeral;
 pub mod port;
 pub mod random;
 pub mod record;

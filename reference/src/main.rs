@@ -1,11 +1,16 @@
 //! `reference CASES FOLDER` makes the cases, `reference check-CASES FOLDER` compares the committed ones with
-//! what is computed, `reference watch` watches demand 3 on the lists of the port's cases, `reference replay TABLE
-//! REPORTS` prints what the program replay must print, `reference redundancy SKEW A B` what redundancy must, and
-//! `reference batch TABLE REPORTS` what the examples must; `reference batch-runs FOLDER` writes files for them.
+//! what is computed, `reference watch` watches demand 3, and two ports in a row, on the lists of the port's cases,
+//! `reference replay TABLE REPORTS` prints what the program replay must print, `reference redundancy SKEW A B` what
+//! redundancy must, `reference next TABLE LINE LINES [SIZES]` what next_table must, and `reference batch TABLE
+//! REPORTS` what the examples must; `reference batch-runs FOLDER` writes files for them.
 
-use reference::cases::{batch, bounds, differing, port, recordings, redundancy, replay, store, table, Files};
+use reference::cases::{
+    batch, bounds, differing, port, recordings, redundancy, replay, store, table, tandem_watch, Files,
+};
+use reference::numeral::value_of;
 use std::env;
 use std::fs;
+use std::io::{self, Write};
 use std::path::Path;
 use std::process::ExitCode;
 
@@ -13,6 +18,7 @@ const USAGE: &str = "usage: reference CASES FOLDER
        reference check-CASES FOLDER
        reference replay TABLE REPORTS
        reference redundancy SKEW A B
+       reference next TABLE LINE LINES [SIZES]
        reference batch TABLE REPORTS
        reference batch-runs FOLDER
        reference watch
@@ -55,12 +61,21 @@ fn contents(name: &str) -> Result<Vec<u8>, String> {
 fn run(words: &[&str]) -> Result<(), String> {
     match words {
         ["watch"] => {
-            print!("{}", port::watch()?);
+            print!("{}{}", port::watch()?, tandem_watch::watch()?);
             Ok(())
         }
         ["replay", table, reports] => {
             print!("{}", reference::replay::replay(&contents(table)?, &contents(reports)?));
             Ok(())
+        }
+        ["next", table, line, lines, sizes @ ..] if [0, 8].contains(&sizes.len()) => {
+            let number = |word: &&str| value_of(word).ok_or(format!("{word} is no numeral"));
+            let mut given = [0; 8];
+            for (place, word) in given.iter_mut().zip(sizes) {
+                *place = number(word)?;
+            }
+            let printed = reference::next::printed(&contents(table)?, number(line)?, number(lines)?, &given);
+            io::stdout().write_all(&printed).map_err(|error| error.to_string())
         }
         ["batch", table, reports] => {
             print!("{}", reference::batch::printed(&contents(table)?, &contents(reports)?));
@@ -70,7 +85,7 @@ fn run(words: &[&str]) -> Result<(), String> {
             store(&batch::runs(), Path::new(folder)).map_err(|error| format!("{folder}: {error}"))
         }
         ["redundancy", skew, a, b] => {
-            let skew = reference::recordings::skew_of(skew).ok_or("SKEW is no numeral")?;
+            let skew = value_of(skew).ok_or("SKEW is no numeral")?;
             let (first, second) = (contents(a)?, contents(b)?);
             let printed = reference::recordings::redundancy(skew, (a, &first), (b, &second));
             print!("{}", printed.text);

@@ -20,17 +20,6 @@ struct Recording<'a> {
     behind: &'a [u8],
 }
 
-/// A decimal numeral; "one above 2^64 − 1 counts as 2^64 − 1".
-pub fn skew_of(word: &str) -> Option<u64> {
-    if word.is_empty() || !word.bytes().all(|byte| byte.is_ascii_digit()) {
-        return None;
-    }
-    let digits = word.trim_start_matches('0');
-    let is_long = digits.len() > 20;
-    let value = if is_long { u128::MAX } else { format!("0{digits}").parse().expect("at most 21 digits") };
-    Some(u64::try_from(value).unwrap_or(u64::MAX))
-}
-
 /// The bytes of a frame in a recording.
 pub fn bytes_of(tick: u64, frame: &[u8]) -> Vec<u8> {
     [&tick.to_le_bytes(), &(frame.len() as u64).to_le_bytes(), frame].concat()
@@ -146,20 +135,6 @@ mod tests {
             let behind = [&good[..], &bad[..]].concat();
             assert_eq!(printed(&behind, &good), both("A 5 10 on 0\n", "can't read first"));
             assert_eq!(printed(&good, &behind), both("A 5 10 on 0\nB 5 10 left\n", "can't read second"));
-        }
-    }
-
-    #[test]
-    fn numerals() {
-        assert_eq!(skew_of("0"), Some(0));
-        assert_eq!(skew_of("007"), Some(7));
-        assert_eq!(skew_of("18446744073709551615"), Some(u64::MAX));
-        assert_eq!(skew_of("18446744073709551614"), Some(u64::MAX - 1));
-        assert_eq!(skew_of("18446744073709551616"), Some(u64::MAX));
-        assert_eq!(skew_of(&"9".repeat(100)), Some(u64::MAX));
-        assert_eq!(skew_of(&"0".repeat(100)), Some(0));
-        for word in ["", "-1", "+1", " 1", "1 ", "1x", "0x1", "١"] {
-            assert_eq!(skew_of(word), None, "{word}");
         }
     }
 }

@@ -16,6 +16,8 @@ pub mod replay;
 pub mod table;
 pub mod table_files;
 pub mod table_records;
+pub mod tandem_lists;
+pub mod tandem_watch;
 
 use std::fs;
 use std::io;

@@ -25,7 +25,7 @@ fn frame(tick: u64, line: u64, number: u64, length: u64) -> Report {
 }
 
 /// The reports in order, each lent a list that is just long enough.
-fn list_of(table: Table, reports: &[Report]) -> List {
+pub fn list_of(table: Table, reports: &[Report]) -> List {
     let mut port = fresh(&table).expect("a good table");
     let mut calls = Vec::new();
     for report in reports {

@@ -2,8 +2,9 @@
 //! at a time; these are longer, and frames lie across.
 
 use super::Files;
+use crate::numeral::value_of;
 use crate::random::Random;
-use crate::recordings::{bytes_of, redundancy, skew_of};
+use crate::recordings::{bytes_of, redundancy};
 
 const SKEW: &str = "100";
 
@@ -87,7 +88,7 @@ pub fn files() -> Files {
     let [a, b] = recordings().map(|frames| {
         frames.iter().flat_map(|frame| bytes_of(frame.tick, &frame.bytes)).collect::<Vec<u8>>()
     });
-    let skew = skew_of(SKEW).expect("a numeral");
+    let skew = value_of(SKEW).expect("a numeral");
     let stdout = redundancy(skew, ("a", &a), ("b", &b)).text.into_bytes();
     let args = format!("{SKEW}\na\nb\n").into_bytes();
     vec![("args", args), ("data/a", a), ("data/b", b), ("stdout", stdout)]
