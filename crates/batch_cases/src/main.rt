@@ -5,6 +5,9 @@ mod rows;
 
 use case_records::given::least;
 use case_records::record;
+use case_records::rows::number;
+use case_records::rows::print;
+use case_records::rows::say;
 use case_records::sums;
 use libc::STDIN_FILENO;
 use lists::NUMBERS;
@@ -12,9 +15,6 @@ use lists::ROOM;
 use little_endian::read2;
 use port::Port;
 use port_batch::Batched;
-use rows::number;
-use rows::print;
-use rows::say;
 ghost use Prim.Native.Nat.{_≤_};
 
 // The bytes before those of a file or record.

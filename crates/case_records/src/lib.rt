@@ -1,4 +1,5 @@
-// For port_cases and batch_cases: table and port records of a case, and sums of what a case leaves.
+// For port_cases, batch_cases and tandem_cases: table and port records of a case, what is printed, and sums of what a case leaves.
 pub mod given;
 pub mod record;
+pub mod rows;
 pub mod sums;

@@ -3,9 +3,11 @@
 // src/cases/port.rs has the form of a case.
 use case_records::given::least;
 use case_records::record;
+use case_records::rows::number;
+use case_records::rows::print;
+use case_records::rows::say;
 use case_records::sums;
 use libc::STDIN_FILENO;
-use libc::STDOUT_FILENO;
 use little_endian::read2;
 use little_endian::read8;
 use port::Answer;
@@ -151,17 +153,4 @@ fn held(q: Queue) -> u64 {
     let mut r = q;
     r.count = n as u16;
     port_scheduler::held(r)
-}
-
-fn say(text: &[u8]) {
-    io::write_all(STDOUT_FILENO, text);
-}
-
-fn print(n: u64) {
-    io::print_decimal(STDOUT_FILENO, n);
-}
-
-fn number(n: u64) {
-    say(b" ");
-    print(n);
 }

@@ -6,6 +6,8 @@ pub mod bounds;
 pub mod lists;
 pub mod make;
 pub mod named_lists;
+pub mod next_tables;
+pub mod onward;
 pub mod port;
 pub mod port_records;
 pub mod recordings;
@@ -16,6 +18,7 @@ pub mod replay;
 pub mod table;
 pub mod table_files;
 pub mod table_records;
+pub mod tandem;
 pub mod tandem_lists;
 pub mod tandem_watch;
 

@@ -47,7 +47,7 @@ fn needed(table: &Table) -> usize {
     44 + 18 * table.count as usize
 }
 
-fn wild(random: &mut Random) -> Link {
+pub fn wild(random: &mut Random) -> Link {
     Link {
         number: random.from(0, 65_535) as u16,
         line: random.from(0, 255) as u8,

@@ -1,125 +1,144 @@
-//! Two ports in a row: reports to the first, and what is reported to the second beside the departures of the first.
+//! Lists that run through two ports in a row.
 
-use super::lists::List;
+use super::lists::{self, List};
+use super::make;
 use super::named_lists::list_of;
-use super::{lists, make};
-use crate::bounds::{bounds, Bounds};
+use super::onward::{onward, Onward};
+use crate::batch::{on_record, whole_numbers};
+use crate::examples::table_e;
 use crate::next::{next, run, Departure, Turn};
-use crate::port::{Arrival, Report, LAST_TICK};
+use crate::port::{Arrival, Report};
 use crate::random::Random;
+use crate::record::Record;
+use crate::replay::bytes_of;
 use crate::table::{bag, Link, Table};
 
 /// How many sharp lists are watched.
 const SHARP: usize = 60;
 
-/// The second port: its table, which has the rows and further links behind them, with its bounds where it has some, and
-/// what is reported to it.
-pub struct Onward {
-    pub line: u64,
+/// How many lists of the cases are of the port's kind, and how many are sharp.
+const LISTS: usize = 180;
+const SHARP_LISTS: usize = 24;
+
+/// A list for a first port, what is reported to a second, and the numbers of the departure lists of both.
+#[derive(Clone)]
+pub struct TwoPorts {
     pub table: Table,
-    pub bounds: Option<Bounds>,
-    pub turns: Vec<Turn>,
+    pub reports: Vec<Report>,
+    pub rooms: [usize; 2],
+    /// By how much the jitters of the rows are less than they should be.
+    pub less: u32,
+    pub onward: Onward,
 }
 
-/// The second port of a table, for the departures of the first; or a refusal.
-pub fn onward(random: &mut Random, table: &Table, departures: &[Departure]) -> Result<Onward, u32> {
-    let lines = random.pick(&[1, 2, 3, 8, 24]);
-    let line = random.from(0, lines - 1);
-    let rows = next(table, line, lines)?;
-    let mut links = rows.members().to_vec();
-    let further = further_links(random, &rows, line);
-    links.extend(&further);
-    let mut table = make::table_of(rows.lines, &links, [0; 8]);
-    let bounds = bounds(&table).ok();
-    table.sizes = sizes(random, &bounds);
-    let others = others(random, &further, departures);
-    Ok(Onward { line, table, bounds, turns: merged(random, departures, others) })
-}
+impl TwoPorts {
+    fn rows(&self) -> usize {
+        self.table.count.into()
+    }
 
-/// Links of other lines than the chosen one, with numbers above those of the rows.
-fn further_links(random: &mut Random, rows: &Table, chosen: u64) -> Vec<Link> {
-    let last = rows.members().last().expect("a row").number;
-    let room = u64::from(u16::MAX - last).min(256 - u64::from(rows.count)).min(6);
-    let others: Vec<u8> = (0..rows.lines as u8).filter(|line| u64::from(*line) != chosen).collect();
-    if others.is_empty() || room == 0 {
-        return Vec::new();
-    }
-    let many = random.from(0, room);
-    (1..=many)
-        .map(|i| {
-            let greatest = random.pick(&[84, 200, 700, 1_538]);
-            Link {
-                number: last + i as u16,
-                line: random.pick(&others),
-                priority: random.from(0, 7) as u8,
-                code: random.from(0, 7) as u8,
-                least: random.pick(&[84, greatest]),
-                greatest,
-                jitter: random.pick(&[0, 0, 900, 20_000]),
-            }
-        })
-        .collect()
-}
-
-/// None, as many as the bounds ask for, more, or any.
-fn sizes(random: &mut Random, bounds: &Option<Bounds>) -> [u32; 8] {
-    let way = random.from(0, 5);
-    match (way, bounds) {
-        (0, _) => [0; 8],
-        (1..=3, Some(found)) => found.bounds.map(|bound| bound.min(16_384) as u32),
-        (4, _) => [16_384; 8],
-        _ => [(); 8].map(|()| make::size(random)),
-    }
-}
-
-/// Reports of other lines, most of them of further links, and waits, near the departures and in order of ticks.
-fn others(random: &mut Random, further: &[Link], departures: &[Departure]) -> Vec<Report> {
-    let mut reports = Vec::new();
-    if departures.is_empty() {
-        return reports;
-    }
-    for _ in 0..random.from(0, 4 + departures.len() as u64) {
-        let [_, _, near] = random.pick(departures);
-        let tick = (near + random.pick(&[0, 1, 84, 500, 1_500])).saturating_sub(random.from(0, 1_000));
-        reports.push(Report { tick: tick.min(LAST_TICK), frame: other_frame(random, further) });
-    }
-    reports.sort_by_key(|report| report.tick);
-    reports
-}
-
-/// A frame of a further link, rarely with a length outside its limits, a number of no link or a line that is not there;
-/// or a wait.
-fn other_frame(random: &mut Random, further: &[Link]) -> Option<Arrival> {
-    if further.is_empty() || random.once_in(8) {
-        return None;
-    }
-    let link = random.pick(further);
-    let mut frame =
-        Arrival { line: link.line.into(), number: link.number.into(), length: link.greatest.into() };
-    match random.from(0, 19) {
-        0 => frame.length = random.from(60, 1_600),
-        1 => frame.number = random.from(0, 65_535),
-        2 => frame.line = random.pick(&[24, 255]),
-        _ => {}
-    }
-    Some(frame)
-}
-
-/// In order of ticks, on equal ticks in either order; then a wait until all may have left.
-fn merged(random: &mut Random, departures: &[Departure], others: Vec<Report>) -> Vec<Turn> {
-    let mut turns = Vec::new();
-    let mut others = others.into_iter().peekable();
-    for [_, _, tick] in departures {
-        let mut is_before = |other: &Report| other.tick < *tick || other.tick == *tick && random.once_in(2);
-        while let Some(other) = others.next_if(&mut is_before) {
-            turns.push(Turn::Other(other));
+    /// The second port's table.
+    pub fn second(&self) -> Table {
+        let mut table = self.onward.table.clone();
+        for v in &mut table.links[..self.rows()] {
+            v.jitter = v.jitter.saturating_sub(self.less);
         }
-        turns.push(Turn::Departure);
+        table
     }
-    turns.extend(others.map(Turn::Other));
-    let last = departures.last().map_or(0, |[_, _, tick]| *tick);
-    turns.push(Turn::Other(Report { tick: (last + 300_000).min(LAST_TICK), frame: None }));
-    turns
+
+    /// The second port's table before the rows are put in.
+    pub fn without_rows(&self) -> Table {
+        let mut table = self.onward.table.clone();
+        table.links[..self.rows()].fill(Link::default());
+        table
+    }
+}
+
+/// What a batch on a fresh port leaves.
+pub struct Batch {
+    pub answers: Vec<u64>,
+    pub list: Vec<u64>,
+    pub departures: usize,
+    pub record: Record,
+}
+
+impl Batch {
+    /// The reports to the fresh port of a table, which is lent a departure list of so many numbers.
+    pub fn of(table: &Table, reports: &[Report], room: usize) -> Batch {
+        let numbers: Vec<u64> = reports.iter().flat_map(|report| whole_numbers(&bytes_of(report))).collect();
+        let mut record = Record::fresh(table).expect("a good table");
+        let (mut answers, mut list) = (vec![0; 3 * reports.len()], vec![0; room]);
+        let departures = on_record(&mut record, &numbers, &mut answers, &mut list).expect("reports");
+        Batch { answers, list, departures, record }
+    }
+
+    pub fn departed(&self) -> Vec<Departure> {
+        self.list.chunks(3).take(self.departures).map(|d| [d[0], d[1], d[2]]).collect()
+    }
+}
+
+/// Every list, in order.
+pub fn all() -> Vec<TwoPorts> {
+    let mut random = Random::new(2_024_020);
+    let mut lists = vec![two_hops(0), two_hops(1)];
+    for _ in 0..SHARP_LISTS {
+        let List { table, calls } = sharp(&mut random);
+        let reports: Vec<Report> = calls.iter().map(|call| call.report).collect();
+        let exact = through(&mut random, table, reports, 400).expect("rows");
+        lists.extend([TwoPorts { less: 1, ..exact.clone() }, exact]);
+    }
+    lists.extend((100..).filter_map(|i| some_list(&mut random, i)).take(LISTS));
+    lists
+}
+
+/// "Two hops": table E, then line 3 of 5 with the sizes of E.
+fn two_hops(less: u32) -> TwoPorts {
+    let frame = |tick, line, number, length| Report { tick, frame: Some(Arrival { line, number, length }) };
+    let reports = vec![
+        frame(1_000, 1, 2, 1_000),
+        frame(1_001, 0, 1, 500),
+        frame(13_501, 0, 1, 84),
+        Report { tick: 20_000, frame: None },
+    ];
+    let mut table = next(&table_e(), 3, 5).expect("rows");
+    table.sizes = table_e().sizes;
+    let onward = Onward { line: 3, table, bounds: None, turns: vec![Turn::Departure; 3] };
+    TwoPorts { table: table_e(), reports, rooms: [9, 9], less, onward }
+}
+
+/// A list of the port's kind, if there are rows for its table and some of its frames depart.
+fn some_list(random: &mut Random, i: usize) -> Option<TwoPorts> {
+    let wanted = random.from(8, 18) as usize;
+    let List { table, calls } = lists::of_length(random, i, wanted);
+    let reports: Vec<Report> = calls.iter().map(|call| call.report).filter(is_short).collect();
+    let room = random.pick(&[30, 400, 400]);
+    through(random, table, reports, room).filter(|two| two.onward.turns.len() > 4)
+}
+
+/// Whether line, number and length are of 1, 2 and 2 bytes.
+fn is_short(report: &Report) -> bool {
+    !report.frame.is_some_and(|f| f.line > 255 || f.number > 65_535 || f.length > 65_535)
+}
+
+/// The list, and a second port for its departures, with room for all of that or for some.
+fn through(random: &mut Random, table: Table, reports: Vec<Report>, room: usize) -> Option<TwoPorts> {
+    let departures = Batch::of(&table, &reports, room).departed();
+    let onward = onward(random, &table, &departures).ok()?;
+    let rooms = [room, random.pick(&[15, 60, 400, 400, 400])];
+    Some(TwoPorts { table, reports, rooms, less: 0, onward })
+}
+
+/// A list, run: its departures.
+pub fn departures(list: &List) -> Vec<Departure> {
+    let calls: Vec<(Report, usize)> = list.calls.iter().map(|call| (call.report, call.list)).collect();
+    run(&list.table, &calls).1
+}
+
+/// Lists for the first port: those of the port's cases, and sharp ones.
+pub fn watched() -> Vec<List> {
+    let mut random = Random::new(2_024_017);
+    let mut all = lists::all();
+    all.extend((0..SHARP).map(|_| sharp(&mut random)));
+    all
 }
 
 /// A list in which each link in turn is held for its whole hold, and then not at all: with a jitter less by one its second
@@ -167,18 +186,4 @@ fn held_longest(links: &[Link], v: &Link, tick: u64) -> Vec<Report> {
     reports.push(frame(again, v, v.least));
     reports.push(Report { tick: again + 10_000, frame: None });
     reports
-}
-
-/// A list, run: its departures.
-pub fn departures(list: &List) -> Vec<Departure> {
-    let calls: Vec<(Report, usize)> = list.calls.iter().map(|call| (call.report, call.list)).collect();
-    run(&list.table, &calls).1
-}
-
-/// Lists for the first port: those of the port's cases, and sharp ones.
-pub fn watched() -> Vec<List> {
-    let mut random = Random::new(2_024_017);
-    let mut all = lists::all();
-    all.extend((0..SHARP).map(|_| sharp(&mut random)));
-    all
 }

@@ -1,7 +1,8 @@
 //! Two ports in a row, watched.
 
 use super::lists::List;
-use super::tandem_lists::{departures, onward, watched, Onward};
+use super::onward::{onward, Onward};
+use super::tandem_lists::{departures, watched};
 use crate::next::{reported, run, Departure, Second, Turn};
 use crate::port::{Answer, Report, DROPPED, MOST_FRAMES, POLICED};
 use crate::random::Random;

@@ -1,11 +1,12 @@
--- `batch_cases::rows::say_rows` is safe and ends: it stays within the list. Assumes nothing.
-use Prim.Native.Nat.{_≤_, _-_}
+-- `case_records::rows::say_rows` is safe and ends: it stays within the list. Assumes nothing.
+use Prim.Native.Nat.{_*_, _≤_, _-_}
+use lib.ListN.{length}
 use borrow.Author.Needs.{needs}
-use Rattle.batch_cases.proofs.rows.say_rows.Statement.{statement}
-use Rattle.batch_cases.proofs.rows.say_rows.Tie as tie
+use Rattle.case_records.proofs.rows.say_rows.Statement.{statement}
+use Rattle.case_records.proofs.rows.say_rows.Tie as tie
 
 abbrev Inv-loop : tie.InvT-loop
-Inv-loop list many n i₀ t5 i = (i ≤ n) × (n ≤ 2133)
+Inv-loop list many n i₀ t5 i = (i ≤ n) × (3 * n ≤ length list)
 
 abbrev μ-loop : tie.MeasureT-loop
 μ-loop list many n i₀ t5 i = n - i
@@ -22,8 +23,8 @@ mul-print c = search needs
 mul-print-2 : tie.Need-mul-print-2 Inv-loop μ-loop
 mul-print-2 c = search needs
 
-element-copy-out-print : tie.Need-element-copy-out-print Inv-loop μ-loop
-element-copy-out-print c = search needs
+shared-slice-read-print : tie.Need-shared-slice-read-print Inv-loop μ-loop
+shared-slice-read-print c = search needs
 
 print-requires : tie.Need-print-requires Inv-loop μ-loop
 print-requires c κs = search needs
@@ -37,8 +38,8 @@ add-number c = search needs
 mul-number-2 : tie.Need-mul-number-2 Inv-loop μ-loop
 mul-number-2 c = search needs
 
-element-copy-out-number : tie.Need-element-copy-out-number Inv-loop μ-loop
-element-copy-out-number c = search needs
+shared-slice-read-number : tie.Need-shared-slice-read-number Inv-loop μ-loop
+shared-slice-read-number c = search needs
 
 number-requires : tie.Need-number-requires Inv-loop μ-loop
 number-requires c κs = search needs
@@ -52,8 +53,8 @@ add-number-2 c = search needs
 mul-number-4 : tie.Need-mul-number-4 Inv-loop μ-loop
 mul-number-4 c = search needs
 
-element-copy-out-number-2 : tie.Need-element-copy-out-number-2 Inv-loop μ-loop
-element-copy-out-number-2 c = search needs
+shared-slice-read-number-2 : tie.Need-shared-slice-read-number-2 Inv-loop μ-loop
+shared-slice-read-number-2 c = search needs
 
 number-requires-2 : tie.Need-number-requires-2 Inv-loop μ-loop
 number-requires-2 c κs = search needs
@@ -86,17 +87,17 @@ say-rows-spec =
     loop-holds
     mul-print
     mul-print-2
-    element-copy-out-print
+    shared-slice-read-print
     print-requires
     mul-number
     add-number
     mul-number-2
-    element-copy-out-number
+    shared-slice-read-number
     number-requires
     mul-number-3
     add-number-2
     mul-number-4
-    element-copy-out-number-2
+    shared-slice-read-number-2
     number-requires-2
     slice-aggregate-say
     say-requires
