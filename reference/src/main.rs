@@ -5,7 +5,8 @@
 //! REPORTS` what the examples must; `reference batch-runs FOLDER` writes files for them.
 
 use reference::cases::{
-    batch, bounds, differing, port, recordings, redundancy, replay, store, table, tandem, tandem_watch, Files,
+    batch, bounds, differing, next, port, recordings, redundancy, replay, store, table, tandem, tandem_watch,
+    Files,
 };
 use reference::numeral::value_of;
 use std::env;
@@ -22,7 +23,8 @@ const USAGE: &str = "usage: reference CASES FOLDER
        reference batch TABLE REPORTS
        reference batch-runs FOLDER
        reference watch
-CASES: table-cases, bounds-cases, port-cases, batch-cases, tandem-cases, replay-case, redundancy-cases, redundancy-run";
+CASES: table-cases, bounds-cases, port-cases, batch-cases, tandem-cases, replay-case, next-run, redundancy-cases,
+       redundancy-run";
 
 fn make(files: Files, summary: &str, folder: &Path) -> Result<(), String> {
     store(&files, folder).map_err(|error| format!("{}: {error}", folder.display()))?;
@@ -48,6 +50,7 @@ fn cases_of(name: &str) -> Result<(Files, String), String> {
         "tandem-cases" => tandem::cases(),
         "redundancy-cases" => redundancy::cases(),
         "replay-case" => return Ok((replay::files(), String::new())),
+        "next-run" => return Ok((next::files(), String::new())),
         "redundancy-run" => return Ok((recordings::files(), String::new())),
         _ => return Err(USAGE.to_string()),
     };

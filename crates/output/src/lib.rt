@@ -1,4 +1,6 @@
 // Internal to the product: what a program prints is collected in a room that the caller lends, and written when the room is full.
+pub mod messages;
+
 use libc::STDOUT_FILENO;
 ghost use mathlib.Core.Path.{_≡_};
 ghost use mathlib.Core.Bool.{true, false};

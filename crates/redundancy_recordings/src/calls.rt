@@ -5,6 +5,7 @@ use crate::recording::Recording;
 use numbers::u8_as_u64;
 use output::Out;
 use output::ROOM;
+use output::messages::put_refused;
 use redundancy::Network;
 use redundancy::State;
 use redundancy_measure::measured;
@@ -111,7 +112,7 @@ fn put_call<'a>(
     b: Recording,
 ) -> Out {
     if m.refused != 0 {
-        return put_refused(out, room, m.refused);
+        return put_refused(out, room, u8_as_u64(m.refused));
     }
     if m.is_a {
         let n = out.text(room, b"A ");
@@ -192,12 +193,6 @@ fn last_of(part: &[u8], r: Recording) -> u64 {
         return 0;
     }
     u8_as_u64(frame[n - 1])
-}
-
-fn put_refused(out: Out, room: &mut [u8; ROOM], number: u8) -> Out {
-    out.text(room, b"refused ")
-        .number(room, u8_as_u64(number))
-        .text(room, b"\n")
 }
 
 fn put_taken(

@@ -2,11 +2,10 @@
 // is a run of frames: tick and length (8 bytes each, little-endian; lengths from 1 to 2,048), and as many bytes. `-` names
 // standard input.
 mod calls;
-mod numeral;
 mod recording;
 
-use libc::STDERR_FILENO;
 use libc::STDIN_FILENO;
+use output::messages::tell;
 
 fn main() {
     if os::arg_count() != 4 {
@@ -15,19 +14,12 @@ fn main() {
     }
     let mut word = io::buffer();
     let n = os::arg(1, &mut word);
-    let skew = numeral::read(&word[..n]);
+    let skew = input::read_numeral(&word[..n]);
     if !skew.is_numeral {
         tell_usage();
         return;
     }
     with_skew(skew.value);
-}
-
-// A message, to standard error; `refused` alone tells that a call was refused.
-fn tell(what: &[u8], name: &[u8]) {
-    io::write_all(STDERR_FILENO, what);
-    io::write_all(STDERR_FILENO, name);
-    io::write_all(STDERR_FILENO, b"\n");
 }
 
 fn tell_usage() {

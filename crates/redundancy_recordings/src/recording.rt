@@ -1,4 +1,5 @@
 // A recording, read in parts.
+use input::has_ended;
 use little_endian::read8;
 ghost use Prim.Native.Nat.{_≤_};
 ghost use lib.ListN.{length};
@@ -127,8 +128,7 @@ fn behind_of(fd: i32, is_full: bool) -> u8 {
     if is_full {
         return MORE;
     }
-    let mut one = [0u8; 1];
-    if libc::read(fd, &mut one) == 0 {
+    if has_ended(fd) {
         return END;
     }
     BROKEN

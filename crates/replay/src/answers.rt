@@ -1,7 +1,7 @@
 // What is printed.
-use libc::STDERR_FILENO;
 use output::Out;
 use output::ROOM;
+use output::messages::put_refused;
 use port::Port;
 use port_scheduler::Queue;
 use units::GREATEST_LENGTH;
@@ -16,25 +16,6 @@ pub(crate) const GIVEN: usize = 600;
 const DEPARTURES: usize = 200 + MOST_HELD;
 
 pub(crate) const LIST: usize = 3 * DEPARTURES;
-
-// To standard error: a message; or `refused` alone, which tells that all is refused and not one report of a list.
-pub(crate) fn tell(what: &[u8], name: &[u8]) {
-    io::write_all(STDERR_FILENO, what);
-    io::write_all(STDERR_FILENO, name);
-    io::write_all(STDERR_FILENO, b"\n");
-}
-
-// The table or the file of reports is refused.
-pub(crate) fn refuse(number: u64) {
-    let mut room = [0u8; ROOM];
-    let out = put_refused(Out::empty(), &mut room, number);
-    let end = out.written(&room);
-    if end.failed {
-        tell(b"can't write", b"");
-    } else {
-        tell(b"refused", b"");
-    }
-}
 
 // The lines of n reports.
 pub(crate) fn put_answers(
@@ -99,12 +80,6 @@ fn freed(list: &[u64; LIST], from: usize, to: usize) -> u64
         i += 1;
     }
     sum
-}
-
-fn put_refused(out: Out, room: &mut [u8; ROOM], number: u64) -> Out {
-    out.text(room, b"refused ")
-        .number(room, number)
-        .text(room, b"\n")
 }
 
 // The departures, three numbers of the list each, and the end of the line.

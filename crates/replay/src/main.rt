@@ -4,7 +4,10 @@
 mod answers;
 mod parts;
 
+use input::has_ended;
 use libc::SEEK_SET;
+use output::messages::refuse;
+use output::messages::tell;
 use port::Port;
 use table::Table;
 
@@ -13,7 +16,7 @@ const TABLE: usize = 4653;
 
 fn main() {
     if os::arg_count() != 3 {
-        answers::tell(b"usage: replay TABLE REPORTS", b"");
+        tell(b"usage: replay TABLE REPORTS", b"");
         return;
     }
     let mut name = io::buffer();
@@ -24,20 +27,20 @@ fn main() {
 fn with_table(name: &[u8]) {
     let fd = os::open_read(name);
     if fd < 0 {
-        answers::tell(b"can't open ", name);
+        tell(b"can't open ", name);
         return;
     }
     let mut file = [0u8; TABLE];
     let n = io::read_full(fd, &mut file);
-    let is_whole = n == TABLE || parts::has_ended(fd);
+    let is_whole = n == TABLE || has_ended(fd);
     libc::close(fd);
     if !is_whole {
-        answers::tell(b"can't read ", name);
+        tell(b"can't read ", name);
         return;
     }
     let reading = table_file::read(&file[..n]);
     if reading.refused != 0 {
-        answers::refuse(reading.refused as u64);
+        refuse(reading.refused as u64);
         return;
     }
     let t = reading.table;
@@ -50,17 +53,17 @@ fn with_table(name: &[u8]) {
 fn with_reports(t: Table, name: &[u8]) {
     let fd = os::open_read(name);
     if fd < 0 {
-        answers::tell(b"can't open ", name);
+        tell(b"can't open ", name);
         return;
     }
     let state = answered(t, fd);
     libc::close(fd);
     if state == parts::OTHER {
-        answers::refuse(19);
+        refuse(19);
     } else if state == parts::FAILED {
-        answers::tell(b"can't read ", name);
+        tell(b"can't read ", name);
     } else if state == parts::UNWRITTEN {
-        answers::tell(b"can't write", b"");
+        tell(b"can't write", b"");
     }
 }
 
@@ -74,7 +77,7 @@ fn answered(t: Table, fd: i32) -> u8 {
     }
     let refused = table::check(t);
     if refused != 0 {
-        answers::refuse(refused as u64);
+        refuse(refused as u64);
         return state;
     }
     parts::replay(fresh_port(t), fd)

@@ -2,6 +2,7 @@
 use crate::answers;
 use crate::answers::GIVEN;
 use crate::answers::LIST;
+use input::has_ended;
 use little_endian::read8;
 use output::Out;
 use output::ROOM;
@@ -32,12 +33,6 @@ pub(crate) const UNWRITTEN: u8 = 4;
 struct Part {
     state: u8,
     n: usize,
-}
-
-// Whether nothing is left to read. A read that fails tells it from the end.
-pub(crate) fn has_ended(fd: i32) -> bool {
-    let mut one = [0u8; 1];
-    libc::read(fd, &mut one) == 0
 }
 
 fn next_part(fd: i32, bytes: &mut [u8; PART]) -> Part

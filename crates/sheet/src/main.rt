@@ -1,5 +1,6 @@
 // Reads a table file on standard input and prints its sheet, or `refused N`. A program has no exit status, so what
 // else there is to know goes to standard error: a message, or `refused` alone.
+use input::has_ended;
 use libc::STDERR_FILENO;
 use libc::STDIN_FILENO;
 use libc::STDOUT_FILENO;
@@ -8,17 +9,11 @@ fn main() {
     // One byte more than the largest file has.
     let mut input = [0u8; 4653];
     let n = io::read_full(STDIN_FILENO, &mut input);
-    if n < 4653 && !has_ended() {
+    if n < 4653 && !has_ended(STDIN_FILENO) {
         io::write_all(STDERR_FILENO, b"can't read the table file\n");
         return;
     }
     print_sheet(&input[..n]);
-}
-
-// Whether nothing is left to read. A read that fails tells it from the end.
-fn has_ended() -> bool {
-    let mut one = [0u8; 1];
-    libc::read(STDIN_FILENO, &mut one) == 0
 }
 
 fn print_sheet(file: &[u8]) {

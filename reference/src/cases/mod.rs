@@ -6,6 +6,7 @@ pub mod bounds;
 pub mod lists;
 pub mod make;
 pub mod named_lists;
+pub mod next;
 pub mod next_tables;
 pub mod onward;
 pub mod port;

@@ -7,7 +7,6 @@ use Rattle.output.proofs.Out.number.Reads as number-reads
 use Rattle.output.proofs.Out.text.Reads as text-reads
 use Rattle.replay.proofs.answers.freed.Reads as freed-reads
 use Rattle.replay.proofs.answers.put_departures.Reads as put-departures-reads
-use Rattle.replay.proofs.answers.put_refused.Reads as put-refused-reads
 
 -- src/answers.rt:83:9
 put-refused-requires : tie.Need-put-refused-requires

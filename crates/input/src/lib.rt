@@ -1,12 +1,12 @@
-// A decimal numeral.
+// Internal to the product: what a program is given.
 
-pub(crate) struct Numeral {
+pub struct Numeral {
     pub is_numeral: bool,
     pub value: u64,
 }
 
-// One above 2^64 - 1 counts as that.
-pub(crate) fn read(text: &[u8]) -> Numeral {
+// A decimal numeral; one above 2^64 - 1 counts as that.
+pub fn read_numeral(text: &[u8]) -> Numeral {
     let mut value: u64 = 0;
     let mut i: usize = 0;
     while i < text.len() {
@@ -36,4 +36,10 @@ fn with_digit(value: u64, digit: u8) -> u64 {
         return u64::MAX;
     }
     tens + more
+}
+
+// Whether nothing is left to read. A read that fails tells it from the end.
+pub fn has_ended(fd: i32) -> bool {
+    let mut one = [0u8; 1];
+    libc::read(fd, &mut one) == 0
 }

@@ -1,9 +1,9 @@
--- `redundancy_recordings::numeral::read` is safe and ends: it stays within the text. Assumes nothing.
+-- `input::read_numeral` is safe and ends: it stays within the text. Assumes nothing.
 use Prim.Native.Nat.{_≤_, _-_}
 use lib.ListN.{length}
 use borrow.Author.Needs.{needs}
-use Rattle.redundancy_recordings.proofs.numeral.read.Statement.{statement}
-use Rattle.redundancy_recordings.proofs.numeral.read.Tie as tie
+use Rattle.input.proofs.read_numeral.Statement.{statement}
+use Rattle.input.proofs.read_numeral.Tie as tie
 
 abbrev Inv-loop : tie.InvT-loop
 Inv-loop text value₀ i₀ value i = i ≤ length text
@@ -35,8 +35,8 @@ loop-again c = search needs
 returns-2 : tie.Need-returns-2 Inv-loop μ-loop
 returns-2 c = search needs
 
-pub read-spec : {M : Type 1} → statement M
-read-spec =
+pub read-numeral-spec : {M : Type 1} → statement M
+read-numeral-spec =
     tie.close
     (tie.spec
     Inv-loop

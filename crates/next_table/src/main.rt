@@ -1,0 +1,99 @@
+// next_table LINE LINES [SIZES]: reads the table file of a port on standard input, and writes that of the next switch, whose line LINE of
+// LINES this port feeds; or prints `refused N`. SIZES are eight, or none where all are 0. A program has no exit status, so what else
+// there is to know goes to standard error: a message, or `refused` alone.
+use input::Numeral;
+use input::has_ended;
+use libc::STDIN_FILENO;
+use libc::STDOUT_FILENO;
+use output::messages::refuse;
+use output::messages::tell;
+ghost use Prim.Native.Nat.{_≤_};
+ghost use lib.ListN.{length};
+
+// One byte more than the largest file has.
+const TABLE: usize = 4653;
+
+// The words without sizes and with them, the program's name among them.
+const WITHOUT_SIZES: usize = 3;
+
+const WITH_SIZES: usize = 11;
+
+fn main() {
+    let n = os::arg_count();
+    if n == WITHOUT_SIZES {
+        with_words(WITHOUT_SIZES);
+    } else if n == WITH_SIZES {
+        with_words(WITH_SIZES);
+    } else {
+        tell_usage();
+    }
+}
+
+fn tell_usage() {
+    tell(b"usage: next_table LINE LINES [SIZES]", b"");
+}
+
+fn with_words(n: usize)
+    requires { ⌜ n ≤ 11 ⌝ }
+{
+    let mut numbers = [0u64; WITH_SIZES];
+    if !are_read(n, &mut numbers) {
+        tell_usage();
+        return;
+    }
+    let w = numbers;
+    let sizes = [w[3], w[4], w[5], w[6], w[7], w[8], w[9], w[10]];
+    with_numbers(w[1], w[2], sizes);
+}
+
+// Reads the words behind the program's name, and says whether all are numerals.
+fn are_read(n: usize, numbers: &mut [u64]) -> bool
+    requires { ⌜ n ≤ length (now numbers) ⌝ }
+{
+    let mut i: usize = 1;
+    while i < n {
+        let v = word(i);
+        if !v.is_numeral {
+            return false;
+        }
+        numbers[i] = v.value;
+        i += 1;
+    }
+    true
+}
+
+fn word(i: usize) -> Numeral {
+    let mut text = io::buffer();
+    let n = os::arg(i, &mut text);
+    input::read_numeral(&text[..n])
+}
+
+fn with_numbers(line: u64, lines: u64, sizes: [u64; 8]) {
+    let mut file = [0u8; TABLE];
+    let n = io::read_full(STDIN_FILENO, &mut file);
+    if n < TABLE && !has_ended(STDIN_FILENO) {
+        tell(b"can't read the table file", b"");
+        return;
+    }
+    put_next(&file[..n], line, lines, sizes);
+}
+
+fn put_next(file: &[u8], line: u64, lines: u64, sizes: [u64; 8]) {
+    let next = next_file::next_file(file, line, lines, sizes);
+    if next.refused != 0 {
+        refuse(next.refused as u64);
+        return;
+    }
+    let bytes = next.bytes;
+    if !is_written(&bytes, next.len) {
+        tell(b"can't write", b"");
+    }
+}
+
+// The first n bytes, written.
+fn is_written(bytes: &[u8], n: usize) -> bool {
+    if n > bytes.len() {
+        return false;
+    }
+    io::write_all(STDOUT_FILENO, &bytes[0..n])
+}

@@ -1,0 +1,33 @@
+// What a program says where it is refused or can't go on.
+use crate::Out;
+use crate::ROOM;
+use libc::STDERR_FILENO;
+ghost use mathlib.Core.Path.{_≡_};
+ghost use mathlib.Core.Bool.{true};
+
+// To standard error: a message; or `refused` alone, which tells that all is refused and not one report of a list.
+pub fn tell(what: &[u8], name: &[u8]) {
+    io::write_all(STDERR_FILENO, what);
+    io::write_all(STDERR_FILENO, name);
+    io::write_all(STDERR_FILENO, b"\n");
+}
+
+// All that the program was given is refused.
+pub fn refuse(number: u64) {
+    let mut room = [0u8; ROOM];
+    let out = put_refused(Out::empty(), &mut room, number);
+    let end = out.written(&room);
+    if end.failed {
+        tell(b"can't write", b"");
+    } else {
+        tell(b"refused", b"");
+    }
+}
+
+pub fn put_refused(out: Out, room: &mut [u8; ROOM], number: u64) -> Out
+    ensures { λ r. ⌜ (out .failed ≡ true → r .failed ≡ true) ⌝ }
+{
+    out.text(room, b"refused ")
+        .number(room, number)
+        .text(room, b"\n")
+}
