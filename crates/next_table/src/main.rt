@@ -10,8 +10,11 @@ use output::messages::tell;
 ghost use Prim.Native.Nat.{_≤_};
 ghost use lib.ListN.{length};
 
-// One byte more than the largest file has.
-const TABLE: usize = 4653;
+// The largest file.
+const LONGEST: usize = 4652;
+
+// One byte more: what is read of standard input.
+const TABLE: usize = LONGEST + 1;
 
 // The words without sizes and with them, the program's name among them.
 const WITHOUT_SIZES: usize = 3;
@@ -79,13 +82,13 @@ fn with_numbers(line: u64, lines: u64, sizes: [u64; 8]) {
 }
 
 fn put_next(file: &[u8], line: u64, lines: u64, sizes: [u64; 8]) {
-    let next = next_file::next_file(file, line, lines, sizes);
+    let mut bytes = [0u8; LONGEST];
+    let next = next_file::next_file(file, line, lines, sizes, &mut bytes);
     if next.refused != 0 {
         refuse(next.refused as u64);
         return;
     }
-    let bytes = next.bytes;
-    if !is_written(&bytes, next.len) {
+    if !is_written(&bytes, next.written) {
         tell(b"can't write", b"");
     }
 }
