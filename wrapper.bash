@@ -1,5 +1,5 @@
-# What ./sheet, ./replay and ./redundancy have in common; each sets usage and sources this. A wrapper ends with 0; with 2 for wrong
-# use, or where something can't be read, written or built; with 3 where the program refuses all that it was given, or ends at a
+# What ./sheet, ./replay, ./redundancy and ./next have in common; each sets usage and sources this. A wrapper ends with 0; with 2 for
+# wrong use, or where something can't be read, written or built; with 3 where the program refuses all that it was given, or ends at a
 # refusal.
 # shellcheck disable=SC2154
 set -u
@@ -21,6 +21,19 @@ take_names() { # LEAST MOST WORDS..
     fi
     if [ $# -lt "$least" ] || [ $# -gt "$most" ]; then fail "$usage"; fi
     for word; do [ -n "$word" ] || fail "an empty name"; done
+}
+
+# Whether there is a standard input.
+is_open() {
+    { : 3<&0; } 2>/dev/null
+}
+
+# Standard input becomes the file of that name; - leaves it.
+take_input() { # NAME
+    if [ "$1" != - ]; then
+        { exec <"$1"; } 2>/dev/null || fail "can't open $1"
+    fi
+    is_open || fail "can't read -"
 }
 
 # Whether the program is built, and no source is newer. A folder is newer when a file in it came or went.
