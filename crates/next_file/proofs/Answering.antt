@@ -7,9 +7,8 @@ use lib.ListN.{length, length-map, replicate}
 use Rattle.model.specs.Basics.{firstRefusal}
 use Rattle.model.specs.Table.{Table}
 use Rattle.model.specs.TableFile.{Writing, readTable}
-use Rattle.model.specs.NextTable.{lineRefusal, nextLink, nextLinks, nextTable, nextRefusal, nextOr, next, nextFileRefusal, nextFileOr, nextFile}
+use Rattle.model.specs.NextTable.{lineRefusal, nextLink, nextLinks, nextTable, nextRefusal, next, nextFileRefusal, nextFileOr, nextFile}
 use Rattle.table.specs.View.{viewTable, recordTable}
-use Rattle.table.proofs.Shown.{record-shown}
 use Rattle.table_file.specs.declared.Reading.{Reading as ReadingRecord}
 use Rattle.table_file.specs.declared.Writing.{Writing as WritingRecord}
 use Rattle.table_file.specs.Answers.{recordReading}
@@ -17,6 +16,7 @@ use Rattle.table_file.specs.Answers.{Wrote as WroteTable}
 use Rattle.table_file.proofs.Back.{links-few, read-shown}
 use Rattle.tandem.specs.declared.Next.{Next as NextRecord}
 use Rattle.tandem.specs.Answer.{recordNext}
+use Rattle.tandem.proofs.Given.{next-refused, next-is, sized-shown}
 use Rattle.next_file.specs.Answer.{Wrote}
 use Rattle.next_file.proofs.Capping.{cap, write-same}
 
@@ -24,18 +24,6 @@ first-is : (n later : ℕ) → (n ≡ 0 → ⊥) → firstRefusal n later ≡ n
 unfolding firstRefusal
 first-is zero later z = absurd (z refl)
 first-is (suc n) later z = refl
-
-next-refused : (t : Table) (line lines : ℕ) → next t line lines .refused ≡ nextRefusal t line lines
-unfolding next nextOr
-next-refused t line lines = go (nextRefusal t line lines)
-  where
-    go : (n : ℕ) → nextOr n t line lines .refused ≡ n
-    go zero = refl
-    go (suc n) = refl
-
-next-is : (t : Table) (line lines : ℕ) → nextRefusal t line lines ≡ 0 → next t line lines ≡ record { refused = 0; table = nextTable t line lines (replicate 8 0) }
-unfolding next nextOr
-next-is t line lines e = rw e
 
 module _ (file : List ℕ) (line lines : ℕ) (sizes output : List ℕ) where
   abbrev t : Table
@@ -84,21 +72,15 @@ module _ (file : List ℕ) (line lines : ℕ) (sizes output : List ℕ) where
           unfolding nextLinks
           few = omega (arith, length-map (t .links) (nextLink t line), links-few file)
 
-          -- the record with its sizes set
-          view-is : viewTable (record { lines = rows .table .lines; count = rows .table .count; numbers = rows .table .numbers; links = rows .table .links; sizes = map cap sizes })
-              ≡ nextTable t line lines (map cap sizes)
-          unfolding viewTable recordTable
-          view-is =
-              let made : rows ≡ recordNext (record { refused = 0; table = nextTable t line lines (replicate 8 0) }) = rows-are ∙ ap recordNext (next-is t line lines (sym number-is ∙ x)) in
-              let same = record-shown (nextTable t line lines (map cap sizes)) few in
-              rw made same
+          made-is : rows .table ≡ recordTable (nextTable t line lines (replicate 8 0))
+          made-is = ap (λ (x : NextRecord). x .table) (rows-are ∙ ap recordNext (next-is t line lines (sym number-is ∙ x)))
 
           pub writes : (fields : List ℕ) → fields ≡ map cap sizes → (after : List ℕ) (r : WritingRecord)
               → WroteTable (viewTable (record { lines = rows .table .lines; count = rows .table .count; numbers = rows .table .numbers; links = rows .table .links; sizes = fields })) output after r
               → Wrote (nextFile file line lines sizes output) after r
           unfolding nextFile nextFileOr
           writes fields f after r w =
-              let k : WroteTable (nextTable t line lines (map cap sizes)) output after r = rw view-is at (rw f at w) in
+              let k : WroteTable (nextTable t line lines (map cap sizes)) output after r = rw (sized-shown t line lines (map cap sizes) few (rows .table) made-is) at (rw f at w) in
               let same = write-same lines (nextLinks t line) sizes output in
               rw (refusal-is, x)
               (record { refused = k .refused ∙ ap (λ (v : Writing). v .refused) same; written = k .written ∙ ap (λ (v : Writing). v .written) same; output = k .output ∙ ap (λ (v : Writing). v .output) same })

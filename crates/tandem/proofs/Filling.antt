@@ -11,7 +11,7 @@ use lib.ListN.{length, getD, take, set, replicate, length-map}
 use lib.Seq.{take-all}
 use Rattle.model.specs.Basics.{entries, firstMet}
 use Rattle.model.specs.Link.{VirtualLink, blankLink, linkAt}
-use Rattle.model.specs.Table.{Table, blankTable, tableRefusal}
+use Rattle.model.specs.Table.{blankTable, tableRefusal}
 use Rattle.model.specs.Bounds.{hold}
 use Rattle.model.specs.NextTable.{nextLink, nextLinks, jittersInRange, nextOr}
 use Rattle.model.proofs.Entries.{entries-blank, took-more}
@@ -25,6 +25,7 @@ use Rattle.table.proofs.Shape.{count-shown}
 use Rattle.table.proofs.PassingRecord.{counts-pass, entry-is, entry-fits}
 use Rattle.tandem.specs.declared.Next.{Next as NextRecord}
 use Rattle.tandem.specs.Rows.{movedLink, Ready, rowsOf}
+use Rattle.tandem.proofs.Given.{row-at}
 
 -- ---- jitters in range
 jitters-more : (rows : List VirtualLink) (i : ℕ) → i < length rows
@@ -71,11 +72,6 @@ filled-more {rows = rows} {late = late} {i = i} k h m n en v ev =
     })
 
 -- ---- the rows by the record
-row-at : (t : Table) (line : ℕ) (links : List VirtualLink) (i : ℕ) → i < length links → linkAt (map (nextLink t line) links) i ≡ nextLink t line (linkAt links i)
-row-at t line [] i l = absurd (omega arith)
-row-at t line (v ∷ links) zero l = refl
-row-at t line (v ∷ links) (suc i) l = row-at t line links i (omega arith)
-
 module _ (t : TableRecord) (holds : List ℕ) (ready : Ready t holds) (line : ℕ) where
   abbrev pub rows : List VirtualLink
   rows = nextLinks (viewTable t) line

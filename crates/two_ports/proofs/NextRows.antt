@@ -10,7 +10,7 @@ use borrow.Author.Tests.{leb-false, le-leb, lt-ltb, not-false}
 use lib.ListN.{length, length-map}
 use Rattle.model.specs.Basics.{allHold, check, firstRefusal}
 use Rattle.model.specs.Units.{greatestJitter}
-use Rattle.model.specs.Link.{VirtualLink, linkAt}
+use Rattle.model.specs.Link.{VirtualLink}
 use Rattle.model.specs.Table.{Table, countsInRange, fieldsInRange, linkChecks, linksChecks, sizeChecks}
 use Rattle.model.specs.Bounds.{boundsRefusal}
 use Rattle.model.specs.NextTable.{nextLink, nextLinks, nextTable, lineRefusal, jittersInRange, nextRefusal}
@@ -19,13 +19,9 @@ use Rattle.model.proofs.Checks.{all-true, true-all, NoneMet, none-back, none-me
 use Rattle.model.proofs.TableFacts.{CountsFit, parts-unmet, links-unmet}
 use Rattle.model.proofs.Holds.{has-bounds}
 use Rattle.model.proofs.Passing.{is-passing}
+use Rattle.tandem.proofs.Given.{row-at}
 
 -- ---- the rows, place by place
-row-at : (t : Table) (line : ℕ) (links : List VirtualLink) (i : ℕ) → i < length links → linkAt (map (nextLink t line) links) i ≡ nextLink t line (linkAt links i)
-row-at t line [] i l = absurd (omega arith)
-row-at t line (v ∷ links) zero l = refl
-row-at t line (v ∷ links) (suc i) l = row-at t line links i (omega arith)
-
 pub rows-among : (t : Table) (line : ℕ) (links : List VirtualLink) → links ≡ nextLinks t line → RowsAmong t line links
 unfolding nextLinks
 rows-among t line links e i l = (i, rw (e, length-map (t .links) (nextLink t line)) l, rw e (row-at t line (t .links) i l))
