@@ -1,4 +1,6 @@
 // Internal to the product: what a program is given.
+ghost use mathlib.Core.Path.{_≡_};
+ghost use Rattle.input.specs.Numerals.{isDigit, withDigit, capped, readNumeral};
 
 pub struct Numeral {
     pub is_numeral: bool,
@@ -6,18 +8,20 @@ pub struct Numeral {
 }
 
 // A decimal numeral; one above 2^64 - 1 counts as that.
-pub fn read_numeral(text: &[u8]) -> Numeral {
+pub fn read_numeral(text: &[u8]) -> Numeral
+    ensures { λ r. ⌜ r ≡ readNumeral (now (text .entry)) ⌝ }
+{
     let mut value: u64 = 0;
     let mut i: usize = 0;
     while i < text.len() {
-        let digit = text[i];
-        if digit < b'0' || b'9' < digit {
+        let byte = text[i];
+        if !is_digit(byte) {
             return Numeral {
                 is_numeral: false,
                 value: 0,
             };
         }
-        value = with_digit(value, digit - b'0');
+        value = with_digit(value, byte - b'0');
         i += 1;
     }
     Numeral {
@@ -26,16 +30,20 @@ pub fn read_numeral(text: &[u8]) -> Numeral {
     }
 }
 
-fn with_digit(value: u64, digit: u8) -> u64 {
+fn is_digit(byte: u8) -> bool
+    ensures { λ r. ⌜ r ≡ isDigit byte ⌝ }
+{
+    b'0' <= byte && byte <= b'9'
+}
+
+fn with_digit(value: u64, digit: u8) -> u64
+    ensures { λ r. ⌜ r ≡ capped (withDigit value digit) ⌝ }
+{
     let more = digit as u64;
-    if value > u64::MAX / 10 {
+    if value > (u64::MAX - more) / 10 {
         return u64::MAX;
     }
-    let tens = 10 * value;
-    if tens > u64::MAX - more {
-        return u64::MAX;
-    }
-    tens + more
+    10 * value + more
 }
 
 // Whether nothing is left to read. A read that fails tells it from the end.
