@@ -1,9 +1,10 @@
 // How many entries of an array a case gives.
 use little_endian::read2;
-ghost use Prim.Native.Nat.{_≤_};
+ghost use mathlib.Core.Path.{_≡_};
+ghost use Prim.Native.Nat.{_≤_, min};
 
 pub fn least(a: usize, b: usize) -> usize
-    ensures { λ r. ⌜ r ≤ b ⌝ }
+    ensures { λ r. ⌜ (r ≡ min a b) × (r ≤ b) ⌝ }
 {
     if a < b { a } else { b }
 }

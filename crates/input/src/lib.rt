@@ -1,5 +1,8 @@
 // Internal to the product: what a program is given.
 ghost use mathlib.Core.Path.{_≡_};
+ghost use mathlib.Core.Bool.{true};
+ghost use lib.ListN.{length};
+ghost use Rattle.io.specs.Counts.{Counts};
 ghost use Rattle.input.specs.Numerals.{isDigit, withDigit, capped, readNumeral};
 
 pub struct Numeral {
@@ -46,8 +49,26 @@ fn with_digit(value: u64, digit: u8) -> u64
     10 * value + more
 }
 
+// The bytes at the start of a buffer that were read, and whether that is all: the buffer is full, or the input has ended.
+pub struct Given {
+    pub length: usize,
+    pub is_read: bool,
+}
+
+// Reads until the buffer is full or the input ends.
+pub fn read(fd: i32, buf: &mut [u8]) -> Given
+    ensures { λ r. ⌜ Counts (r .length) (now (buf .exit)) ⌝ }
+    ensures { λ r. ⌜ (r .length ≡ length (now (buf .exit)) → r .«is_read» ≡ true) ⌝ }
+{
+    let n = io::read_full(fd, buf);
+    Given {
+        length: n,
+        is_read: n == buf.len() || has_ended(fd),
+    }
+}
+
 // Whether nothing is left to read. A read that fails tells it from the end.
-pub fn has_ended(fd: i32) -> bool {
+fn has_ended(fd: i32) -> bool {
     let mut one = [0u8; 1];
     libc::read(fd, &mut one) == 0
 }

@@ -2,7 +2,6 @@
 // LINES this port feeds; or prints `refused N`. SIZES are eight, or none where all are 0. A program has no exit status, so what else
 // there is to know goes to standard error: a message, or `refused` alone.
 use input::Numeral;
-use input::has_ended;
 use libc::STDIN_FILENO;
 use libc::STDOUT_FILENO;
 use output::messages::refuse;
@@ -73,11 +72,12 @@ fn word(i: usize) -> Numeral {
 
 fn with_numbers(line: u64, lines: u64, sizes: [u64; 8]) {
     let mut file = [0u8; TABLE];
-    let n = io::read_full(STDIN_FILENO, &mut file);
-    if n < TABLE && !has_ended(STDIN_FILENO) {
+    let given = input::read(STDIN_FILENO, &mut file);
+    if !given.is_read {
         tell(b"can't read the table file", b"");
         return;
     }
+    let n = given.length;
     put_next(&file[..n], line, lines, sizes);
 }
 

@@ -1,23 +1,24 @@
 // Internal to the product: what a program prints is collected in a room that the caller lends, and written when the room is full.
 pub mod messages;
 
-use libc::STDOUT_FILENO;
 ghost use mathlib.Core.Path.{_≡_};
 ghost use mathlib.Core.Bool.{true, false};
 
 pub const ROOM: usize = 8192;
 
-// How many bytes are collected, and whether a write has failed.
+// The file that is written to, how many bytes are collected, and whether a write has failed.
 pub struct Out {
+    pub fd: i32,
     pub length: usize,
     pub failed: bool,
 }
 
 impl Out {
-    pub fn empty() -> Out
-        ensures { λ r. ⌜ (r .length ≡ 0) × (r .failed ≡ false) ⌝ }
+    pub fn empty(fd: i32) -> Out
+        ensures { λ r. ⌜ (r .fd ≡ fd) × (r .length ≡ 0) × (r .failed ≡ false) ⌝ }
     {
         Out {
+            fd,
             length: 0,
             failed: false,
         }
@@ -31,6 +32,7 @@ impl Out {
         if n < ROOM {
             room[n] = byte;
             return Out {
+                fd: self.fd,
                 length: n + 1,
                 failed: self.failed,
             };
@@ -74,21 +76,23 @@ impl Out {
     {
         if self.failed {
             return Out {
+                fd: self.fd,
                 length: 0,
                 failed: true,
             };
         }
         Out {
+            fd: self.fd,
             length: 0,
-            failed: !is_written(room, self.length),
+            failed: !is_written(self.fd, room, self.length),
         }
     }
 }
 
-fn is_written(room: &[u8], n: usize) -> bool {
+fn is_written(fd: i32, room: &[u8], n: usize) -> bool {
     if n > ROOM {
         return false;
     }
     let k = io::count(n as isize, room);
-    io::write_all(STDOUT_FILENO, &room[..k])
+    io::write_all(fd, &room[..k])
 }

@@ -2,6 +2,7 @@
 use crate::recording;
 use crate::recording::PART;
 use crate::recording::Recording;
+use libc::STDOUT_FILENO;
 use numbers::u8_as_u64;
 use output::Out;
 use output::ROOM;
@@ -57,7 +58,7 @@ pub(crate) fn run(skew: u64, fd_a: i32, fd_b: i32) -> u8 {
         state: State::fresh(skew),
         a,
         b,
-        out: Out::empty(),
+        out: Out::empty(STDOUT_FILENO),
         end: end_of(0, a, b),
     };
     // Nothing says that a file ends, so the loop counts down, from a number that no run uses up.

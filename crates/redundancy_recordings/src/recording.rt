@@ -1,5 +1,4 @@
 // A recording, read in parts.
-use input::has_ended;
 use little_endian::read8;
 ghost use Prim.Native.Nat.{_≤_};
 ghost use lib.ListN.{length};
@@ -116,19 +115,20 @@ fn filled(fd: i32, part: &mut [u8], u: Unread, many: usize) -> Unread {
         return u;
     }
     let kept = moved(part, u.from, u.to);
-    let to = kept + io::read_full(fd, &mut part[kept..]);
+    let read = input::read(fd, &mut part[kept..]);
+    let to = kept + read.length;
     Unread {
         from: 0,
         to,
-        behind: behind_of(fd, to == part.len()),
+        behind: behind_of(read.is_read, to == part.len()),
     }
 }
 
-fn behind_of(fd: i32, is_full: bool) -> u8 {
+fn behind_of(is_read: bool, is_full: bool) -> u8 {
     if is_full {
         return MORE;
     }
-    if has_ended(fd) {
+    if is_read {
         return END;
     }
     BROKEN

@@ -4,7 +4,6 @@
 mod answers;
 mod parts;
 
-use input::has_ended;
 use libc::SEEK_SET;
 use output::messages::refuse;
 use output::messages::tell;
@@ -31,13 +30,13 @@ fn with_table(name: &[u8]) {
         return;
     }
     let mut file = [0u8; TABLE];
-    let n = io::read_full(fd, &mut file);
-    let is_whole = n == TABLE || has_ended(fd);
+    let given = input::read(fd, &mut file);
     libc::close(fd);
-    if !is_whole {
+    if !given.is_read {
         tell(b"can't read ", name);
         return;
     }
+    let n = given.length;
     let reading = table_file::read(&file[..n]);
     if reading.refused != 0 {
         refuse(reading.refused as u64);

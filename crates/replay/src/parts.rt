@@ -2,7 +2,7 @@
 use crate::answers;
 use crate::answers::GIVEN;
 use crate::answers::LIST;
-use input::has_ended;
+use libc::STDOUT_FILENO;
 use little_endian::read8;
 use output::Out;
 use output::ROOM;
@@ -38,8 +38,9 @@ struct Part {
 fn next_part(fd: i32, bytes: &mut [u8; PART]) -> Part
     ensures { λ r. ⌜ r .n ≤ 8000 ⌝ }
 {
-    let n = io::read_full(fd, bytes);
-    let state = state_of(fd, bytes, n);
+    let read = input::read(fd, bytes);
+    let n = read.length;
+    let state = state_of(read.is_read, bytes, n);
     if state == MORE || state == ENDED {
         let end = least(n, PART);
         return Part { state, n: end };
@@ -47,8 +48,8 @@ fn next_part(fd: i32, bytes: &mut [u8; PART]) -> Part
     Part { state, n: 0 }
 }
 
-fn state_of(fd: i32, bytes: &[u8; PART], n: usize) -> u8 {
-    if n != PART && !has_ended(fd) {
+fn state_of(is_read: bool, bytes: &[u8; PART], n: usize) -> u8 {
+    if !is_read {
         return FAILED;
     }
     if !is_run(bytes, n) {
@@ -101,7 +102,7 @@ pub(crate) fn replay(mut port: Port, fd: i32) -> u8 {
     let mut numbers = [0u64; NUMBERS];
     let mut given = [0u64; GIVEN];
     let mut list = [0u64; LIST];
-    let mut out = Out::empty();
+    let mut out = Out::empty(STDOUT_FILENO);
     let mut state = MORE;
     let mut turns = u64::MAX;
     while turns > 0 && state == MORE && !out.failed {

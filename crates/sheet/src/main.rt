@@ -1,19 +1,19 @@
 // Reads a table file on standard input and prints its sheet, or `refused N`. A program has no exit status, so what
 // else there is to know goes to standard error: a message, or `refused` alone.
-use input::has_ended;
 use libc::STDERR_FILENO;
 use libc::STDIN_FILENO;
 use libc::STDOUT_FILENO;
 
 fn main() {
     // One byte more than the largest file has.
-    let mut input = [0u8; 4653];
-    let n = io::read_full(STDIN_FILENO, &mut input);
-    if n < 4653 && !has_ended(STDIN_FILENO) {
+    let mut file = [0u8; 4653];
+    let given = input::read(STDIN_FILENO, &mut file);
+    if !given.is_read {
         io::write_all(STDERR_FILENO, b"can't read the table file\n");
         return;
     }
-    print_sheet(&input[..n]);
+    let n = given.length;
+    print_sheet(&file[..n]);
 }
 
 fn print_sheet(file: &[u8]) {

@@ -13,7 +13,7 @@ is-written-requires : tie.Need-is-written-requires
 is-written-requires c κs = search needs
 
 returns-2 : tie.Need-returns-2
-returns-2 c = (refl, λ e. absurd (let f = c .before .before .if1 .left in let z : _≡_ {A = ℕ} 0 1 = cc in omega arith))
+returns-2 c = (refl, λ e. absurd (let f = c .before .before .before .before .if1 .left in let z : _≡_ {A = ℕ} 0 1 = cc in omega arith))
 
 pub written-spec : {M : Type 1} → statement M
 written-spec = tie.close (tie.spec returns is-written-requires returns-2)
