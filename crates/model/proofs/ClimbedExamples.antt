@@ -23,6 +23,7 @@ use Rattle.model.proofs.Holds.{climbsTo, climbed, climbed-past, no-hold
 use Rattle.model.proofs.BoundFacts.{unused}
 use Rattle.model.proofs.ReadBack.{read-written}
 use Rattle.model.proofs.Examples as shown
+use Rattle.model.proofs.FormulaExamples as formed
 
 -- names for all that a climb and a table's checks compute with
 unfoldable pub the-climb : ℕ
@@ -126,8 +127,8 @@ boundE (suc (suc p)) = 0
 
 e-parts : (p : ℕ) → p < 8 → (bound tableE p ≡ boundE p) × (window tableE p ≡ 0)
 unfolding Correct anyOf ofPriority
-e-parts zero l = (shown.a .1, shown.a .2)
-e-parts (suc zero) l = (shown.b .1, shown.b .2)
+e-parts zero l = (formed.a .1, formed.a .2)
+e-parts (suc zero) l = (formed.b .1, formed.b .2)
 e-parts (suc (suc p)) l = unused tableE (suc (suc p)) (rw (ne-eqb 0 (suc (suc p)) (λ x. omega arith), ne-eqb 1 (suc (suc p)) (λ x. omega arith)))
 
 pub e-held : Held tableE holdE
@@ -176,7 +177,7 @@ unfolding Correct anyOf ofPriority
 nt-parts zero l = (shown.windowNt0 .1, shown.windowNt0 .2)
 nt-parts (suc zero) l = unused tableNt 1 refl
 nt-parts (suc (suc zero)) l = unused tableNt 2 refl
-nt-parts (suc (suc (suc zero))) l = (shown.windowNt3 .1, shown.windowNt3 .2)
+nt-parts (suc (suc (suc zero))) l = (formed.windowNt3 .1, formed.windowNt3 .2)
 nt-parts (suc (suc (suc (suc p)))) l =
     unused tableNt (suc (suc (suc (suc p)))) (rw (ne-eqb 0 (suc (suc (suc (suc p)))) (λ x. omega arith), ne-eqb 3 (suc (suc (suc (suc p)))) (λ x. omega arith)))
 

@@ -10,7 +10,7 @@ use borrow.Author.Tests.{eqb-true}
 use Rattle.model.specs.Basics.{provided, sumTo, greatestTo, allTo, allHold, firstFrom, further, firstMet}
 use Rattle.model.specs.Units.{occupied}
 use Rattle.model.specs.Link.{bagOf, placeOf, anyOf, sumOver, greatestOver}
-use Rattle.model.specs.Table.{countsInRange, fieldsInRange, notAbove, linksChecks, allAtMost, tableChecks, tableRefusal}
+use Rattle.model.specs.Table.{Table, countsInRange, fieldsInRange, notAbove, linksChecks, allAtMost, tableChecks, tableRefusal}
 use Rattle.model.specs.Arrival.{frameCurve, onLine, lineCurve, arrivalCurve}
 use Rattle.model.specs.Bounds.{ofPriority, upTo, beyond, ownArrivals, upArrivals, longest, blocking, holdTest, holdBy, holdOf, backlog, boundWithin, isThere, orZero, windowWithin, boundsRefusal, hold, bound, window}
 use Rattle.model.specs.TableFile.{tableBytes}
@@ -48,29 +48,36 @@ sameOutcomes [] (b ∷ ys) = false
 sameOutcomes (a ∷ xs) [] = false
 sameOutcomes (a ∷ xs) (b ∷ ys) = sameOutcome a b && sameOutcomes xs ys
 
-unfoldable pub computes : Example → Bool
-computes (gives-bound t p b h w) = sameNumbers (hold t p ∷ boundWithin t p h ∷ windowWithin t p h ∷ []) (h ∷ b ∷ w ∷ [])
-computes (gives-hold t p h) = eqb (hold t p) h
-computes (lacks-bounds t n) = eqb (boundsRefusal t) n
-computes (gives-answers t calls expected) = sameOutcomes (outcomes t calls) expected
-computes (gives-sheet t printed) = sameNumbers (sheet (tableBytes t)) (text printed)
-computes (gives-batch t reports answers list refused answersAfter listAfter departures) =
+-- how a bound, a hold and a window are computed: by the definitions, or as in FormulaExamples
+abbrev pub Way : Type 0
+Way = Table → ℕ → ℕ → ℕ → ℕ → Bool
+
+unfoldable pub literally : Way
+literally t p b h w = sameNumbers (hold t p ∷ boundWithin t p h ∷ windowWithin t p h ∷ []) (h ∷ b ∷ w ∷ [])
+
+unfoldable pub computes : Way → Example → Bool
+computes way (gives-bound t p b h w) = way t p b h w
+computes way (gives-hold t p h) = eqb (hold t p) h
+computes way (lacks-bounds t n) = eqb (boundsRefusal t) n
+computes way (gives-answers t calls expected) = sameOutcomes (outcomes t calls) expected
+computes way (gives-sheet t printed) = sameNumbers (sheet (tableBytes t)) (text printed)
+computes way (gives-batch t reports answers list refused answersAfter listAfter departures) =
     let o = answerBatch t (fresh t) reports answers list in
     eqb (o .refused) refused && (sameNumbers (o .answers) answersAfter && (sameNumbers (o .list) listAfter && eqb (o .departures) departures))
-computes (gives-bytes file reports answers list refused answersAfter listAfter) =
+computes way (gives-bytes file reports answers list refused answersAfter listAfter) =
     let o = batchFile file reports answers list in
     eqb (o .refused) refused && (sameNumbers (o .answers) answersAfter && sameNumbers (o .list) listAfter)
 -- the whole answer is shown from its parts, in ClimbedExamples, the words of demand 3 from the answers, in ClauseExamples, a full buffer
 -- in FullExamples, the eight BAGs in Bags, networks A and B in RedundancyExamples, and the next table in NextExamples
-computes (gives-sizing t expected) = false
-computes (gives-held t calls p expected) = false
-computes (gives-fates t calls n expected) = false
-computes (keeps t calls i) = false
-computes (breaks t calls i) = false
-computes (fills t calls clock p frames mark) = false
-computes (gives-bags bags) = false
-computes (selects r) = false
-computes (gives-next t line lines expected) = false
+computes way (gives-sizing t expected) = false
+computes way (gives-held t calls p expected) = false
+computes way (gives-fates t calls n expected) = false
+computes way (keeps t calls i) = false
+computes way (breaks t calls i) = false
+computes way (fills t calls clock p frames mark) = false
+computes way (gives-bags bags) = false
+computes way (selects r) = false
+computes way (gives-next t line lines expected) = false
 
 numbers-equal : (xs ys : List ℕ) → sameNumbers xs ys ≡ true → xs ≡ ys
 unfolding sameNumbers
@@ -98,36 +105,46 @@ outcomes-equal (x ∷ xs) (y ∷ ys) e =
     let t : xs ≡ ys = outcomes-equal xs ys (s .1) in
     cc
 
-pub settled : (e : Example) → computes e ≡ true → Correct e
-unfolding computes Correct bound window
-settled (gives-bound t p b h w) e =
+abbrev pub Sound : Way → Type 0
+Sound way = (t : Table) (p b h w : ℕ) → way t p b h w ≡ true → Correct (gives-bound t p b h w)
+
+literally-sound : Sound literally
+unfolding literally Correct bound window
+literally-sound t p b h w e =
     let s : (hold t p ∷ boundWithin t p h ∷ windowWithin t p h ∷ []) ≡ (h ∷ b ∷ w ∷ []) = numbers-equal (hold t p ∷ boundWithin t p h ∷ windowWithin t p h ∷ []) (h ∷ b ∷ w ∷ []) e in
     let is : hold t p ≡ h = cc in
     (is, rw is cc, rw is cc)
-settled (gives-hold t p h) e = eqb-true (hold t p) h e
-settled (lacks-bounds t n) e = eqb-true (boundsRefusal t) n e
-settled (gives-answers t calls expected) e = outcomes-equal (outcomes t calls) expected e
-settled (gives-sheet t printed) e = numbers-equal (sheet (tableBytes t)) (text printed) e
-settled (gives-batch t reports answers list refused answersAfter listAfter departures) e =
+
+pub settled-by : (way : Way) → Sound way → (e : Example) → computes way e ≡ true → Correct e
+unfolding computes Correct
+settled-by way sound (gives-bound t p b h w) e = sound t p b h w e
+settled-by way sound (gives-hold t p h) e = eqb-true (hold t p) h e
+settled-by way sound (lacks-bounds t n) e = eqb-true (boundsRefusal t) n e
+settled-by way sound (gives-answers t calls expected) e = outcomes-equal (outcomes t calls) expected e
+settled-by way sound (gives-sheet t printed) e = numbers-equal (sheet (tableBytes t)) (text printed) e
+settled-by way sound (gives-batch t reports answers list refused answersAfter listAfter departures) e =
     let o = answerBatch t (fresh t) reports answers list in
     let s = and-eq-true-iff (eqb (o .refused) refused) _ .0 e in
     let r = and-eq-true-iff (sameNumbers (o .answers) answersAfter) _ .0 (s .1) in
     let q = and-eq-true-iff (sameNumbers (o .list) listAfter) (eqb (o .departures) departures) .0 (r .1) in
     (eqb-true (o .refused) refused (s .0), numbers-equal (o .answers) answersAfter (r .0), numbers-equal (o .list) listAfter (q .0), eqb-true (o .departures) departures (q .1))
-settled (gives-bytes file reports answers list refused answersAfter listAfter) e =
+settled-by way sound (gives-bytes file reports answers list refused answersAfter listAfter) e =
     let o = batchFile file reports answers list in
     let s = and-eq-true-iff (eqb (o .refused) refused) _ .0 e in
     let r = and-eq-true-iff (sameNumbers (o .answers) answersAfter) (sameNumbers (o .list) listAfter) .0 (s .1) in
     (eqb-true (o .refused) refused (s .0), numbers-equal (o .answers) answersAfter (r .0), numbers-equal (o .list) listAfter (r .1))
-settled (gives-sizing t expected) e = absurd (let z : _≡_ {A = ℕ} 0 1 = cc in omega arith)
-settled (gives-held t calls p expected) e = absurd (let z : _≡_ {A = ℕ} 0 1 = cc in omega arith)
-settled (gives-fates t calls n expected) e = absurd (let z : _≡_ {A = ℕ} 0 1 = cc in omega arith)
-settled (keeps t calls i) e = absurd (let z : _≡_ {A = ℕ} 0 1 = cc in omega arith)
-settled (breaks t calls i) e = absurd (let z : _≡_ {A = ℕ} 0 1 = cc in omega arith)
-settled (fills t calls clock p frames mark) e = absurd (let z : _≡_ {A = ℕ} 0 1 = cc in omega arith)
-settled (gives-bags bags) e = absurd (let z : _≡_ {A = ℕ} 0 1 = cc in omega arith)
-settled (selects r) e = absurd (let z : _≡_ {A = ℕ} 0 1 = cc in omega arith)
-settled (gives-next t line lines expected) e = absurd (let z : _≡_ {A = ℕ} 0 1 = cc in omega arith)
+settled-by way sound (gives-sizing t expected) e = absurd (let z : _≡_ {A = ℕ} 0 1 = cc in omega arith)
+settled-by way sound (gives-held t calls p expected) e = absurd (let z : _≡_ {A = ℕ} 0 1 = cc in omega arith)
+settled-by way sound (gives-fates t calls n expected) e = absurd (let z : _≡_ {A = ℕ} 0 1 = cc in omega arith)
+settled-by way sound (keeps t calls i) e = absurd (let z : _≡_ {A = ℕ} 0 1 = cc in omega arith)
+settled-by way sound (breaks t calls i) e = absurd (let z : _≡_ {A = ℕ} 0 1 = cc in omega arith)
+settled-by way sound (fills t calls clock p frames mark) e = absurd (let z : _≡_ {A = ℕ} 0 1 = cc in omega arith)
+settled-by way sound (gives-bags bags) e = absurd (let z : _≡_ {A = ℕ} 0 1 = cc in omega arith)
+settled-by way sound (selects r) e = absurd (let z : _≡_ {A = ℕ} 0 1 = cc in omega arith)
+settled-by way sound (gives-next t line lines expected) e = absurd (let z : _≡_ {A = ℕ} 0 1 = cc in omega arith)
+
+pub settled : (e : Example) → computes literally e ≡ true → Correct e
+settled e x = settled-by literally literally-sound e x
 
 -- names for all that an example computes with
 unfoldable pub the-port : ℕ
@@ -135,7 +152,7 @@ unfolding computes sameOutcomes sameOutcome sameNumbers outcomes run step accept
 the-port = 0
 
 the-formulas : ℕ
-unfolding computes sameNumbers boundsRefusal hold orZero isThere boundWithin windowWithin backlog holdOf holdBy holdTest blocking longest upArrivals ownArrivals beyond upTo ofPriority arrivalCurve lineCurve onLine frameCurve greatestOver sumOver anyOf bagOf tableChecks allAtMost linksChecks notAbove fieldsInRange countsInRange provided sumTo greatestTo allTo allHold firstFrom firstMet occupied
+unfolding computes literally sameNumbers boundsRefusal hold orZero isThere boundWithin windowWithin backlog holdOf holdBy holdTest blocking longest upArrivals ownArrivals beyond upTo ofPriority arrivalCurve lineCurve onLine frameCurve greatestOver sumOver anyOf bagOf tableChecks allAtMost linksChecks notAbove fieldsInRange countsInRange provided sumTo greatestTo allTo allHold firstFrom firstMet occupied
 the-formulas = 0
 
 pub c : Correct example.c
@@ -202,45 +219,17 @@ pub y : Correct example.y
 unfolding the-port
 y = settled example.y refl
 
-pub a : Correct example.a
-unfolding the-formulas
-a = settled example.a refl
-
-pub b : Correct example.b
-unfolding the-formulas
-b = settled example.b refl
-
 pub g : Correct example.g
 unfolding the-formulas
 g = settled example.g refl
-
-pub h : Correct example.h
-unfolding the-formulas
-h = settled example.h refl
 
 pub k : Correct example.k
 unfolding the-formulas
 k = settled example.k refl
 
-pub l : Correct example.l
-unfolding the-formulas
-l = settled example.l refl
-
 pub t : Correct example.t
 unfolding Correct
 t = bag-constants
-
-pub windowK : Correct example.windowK
-unfolding the-formulas
-windowK = settled example.windowK refl
-
-pub windowP : Correct example.windowP
-unfolding the-formulas
-windowP = settled example.windowP refl
-
-pub windowO0 : Correct example.windowO0
-unfolding the-formulas
-windowO0 = settled example.windowO0 refl
 
 pub windowO1 : Correct example.windowO1
 unfolding the-formulas
@@ -249,7 +238,3 @@ windowO1 = settled example.windowO1 refl
 pub windowNt0 : Correct example.windowNt0
 unfolding the-formulas
 windowNt0 = settled example.windowNt0 refl
-
-pub windowNt3 : Correct example.windowNt3
-unfolding the-formulas
-windowNt3 = settled example.windowNt3 refl

@@ -19,6 +19,7 @@ pub mod Curves
 pub mod Holds
 pub mod BoundFacts
 pub mod Covering
+pub mod Peaks
 -- ---- the gate: what passes it is within the arrival curve; links that keep BAG and jitter
 pub mod Passed
 pub mod TokenBucket
@@ -58,6 +59,7 @@ pub mod RedundancyExamples
 pub mod Selections
 -- ---- the examples, and all theorems under their names
 pub mod Examples
+pub mod FormulaExamples
 pub mod ClauseExamples
 pub mod ClimbedExamples
 pub mod FullExamples

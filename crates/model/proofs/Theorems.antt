@@ -19,6 +19,7 @@ use Rattle.model.proofs.Batches as Batches
 use Rattle.model.proofs.RedundancyExamples as selected
 use Rattle.model.proofs.Selections as Selections
 use Rattle.model.proofs.Examples as shown
+use Rattle.model.proofs.FormulaExamples as formed
 use Rattle.model.proofs.ClauseExamples as told
 use Rattle.model.proofs.ClimbedExamples as climbed
 use Rattle.model.proofs.FullExamples as full
@@ -103,7 +104,7 @@ selected-always = Selections.selected-always
 
 pub examples-correct : ExamplesCorrect
 examples-correct =
-    also shown.a (also shown.b (also shown.c (also shown.d (also shown.e (also shown.f (also shown.g (also shown.h (also climbed.i (also climbed.j (also shown.k (also shown.l
+    also formed.a (also formed.b (also shown.c (also shown.d (also shown.e (also shown.f (also shown.g (also formed.h (also climbed.i (also climbed.j (also shown.k (also formed.l
     (also shown.m (also shown.n (also shown.o (also shown.p (also shown.q (also shown.r (also shown.s (also shown.t (also shown.u (also shown.v (also shown.w (also shown.x (also shown.y
-    (also climbed.sizingE (also shown.windowK (also shown.windowP (also shown.windowO0 (also shown.windowO1 (also shown.windowNt0 (also shown.windowNt3 (also climbed.sizingNt
-    (also full.boundC (also full.filledC (also climbed.sheetE (also climbed.sheetNt (each-of-both told.words-correct (each-of-both selected.selections-correct (each-of-both batched.batches-correct hopped.hops-correct)))))))))))))))))))))))))))))))))))))))
+    (also climbed.sizingE (also formed.windowK (also formed.windowP (also formed.windowO0 (also shown.windowO1 (also shown.windowNt0 (also formed.windowNt3 (also climbed.sizingNt
+    (also formed.boundC (also full.filledC (also climbed.sheetE (also climbed.sheetNt (each-of-both told.words-correct (each-of-both selected.selections-correct (each-of-both batched.batches-correct hopped.hops-correct)))))))))))))))))))))))))))))))))))))))
