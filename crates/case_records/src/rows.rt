@@ -1,4 +1,4 @@
-// What is printed of a case. Each answers how much that was: bytes, digits, rows.
+// What is printed of a case. Each answers how much it handed to the write: bytes, digits, rows. Whether that arrived it does not say.
 use crate::given::least;
 use libc::STDOUT_FILENO;
 ghost use mathlib.Core.Path.{_≡_};

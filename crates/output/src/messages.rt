@@ -1,4 +1,4 @@
-// What a program says where it is refused or can't go on. Nothing of it is left to be written.
+// What a program says where it is refused or can't go on. None of it stays collected; whether the write took it, `failed` says.
 use crate::Out;
 use crate::ROOM;
 use libc::STDERR_FILENO;
