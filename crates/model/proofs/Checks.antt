@@ -40,6 +40,13 @@ unfolding allTo
 to-all test zero h = refl
 to-all test (suc n) h = and-eq-true-iff (allTo test n) (test n) .1 (to-all test n (λ k l. h k (omega arith)), h n (le-refl (suc n)))
 
+pub not-all : (test : ℕ → Bool) (n k : ℕ) → k < n → test k ≡ false → allTo test n ≡ false
+not-all test n k l e = go (allTo test n) refl
+  where
+    go : (b : Bool) → allTo test n ≡ b → b ≡ false
+    go false q = refl
+    go true q = absurd (let z : _≡_ {A = ℕ} 0 1 = let w : true ≡ false = sym (all-to test n q k l) ∙ e in cc in omega arith)
+
 -- ---- one check
 
 pub first-here : (c : Check) (cs : List Check) → c .met ≡ true → firstMet (c ∷ cs) ≡ c .number

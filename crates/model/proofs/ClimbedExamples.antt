@@ -9,7 +9,7 @@ use borrow.Author.Tests.{ne-eqb}
 use lib.ListN.{take}
 use Rattle.model.specs.Basics.{provided, sumTo, eight, allTo, allHold, firstMet, firstRefusal}
 use Rattle.model.specs.Link.{bagOf, anyOf, sumOver, greatestOver}
-use Rattle.model.specs.Table.{Table, sizeOf, countsInRange, fieldsInRange, notAbove, linksChecks, allAtMost, tableChecks, tableRefusal}
+use Rattle.model.specs.Table.{Table, sizeOf, tableRefusal}
 use Rattle.model.specs.Digits.{digitsOf}
 use Rattle.model.specs.TableFile.{recordBytes, countsBody, linkBody, sizesBody, tableBytes, readTable}
 use Rattle.model.specs.Arrival.{frameCurve, onLine, lineCurve, arrivalCurve}
@@ -22,6 +22,7 @@ use Rattle.model.proofs.Search.{climb}
 use Rattle.model.proofs.Holds.{climbsTo, climbed, climbed-past, no-hold, all-holds}
 use Rattle.model.proofs.BoundFacts.{unused}
 use Rattle.model.proofs.ReadBack.{read-written}
+use Rattle.model.proofs.Examples.{the-table}
 use Rattle.model.proofs.Examples as shown
 use Rattle.model.proofs.FormulaExamples as formed
 
@@ -31,7 +32,7 @@ unfolding climbsTo climb allHold holdTest upArrivals blocking beyond upTo arriva
 the-climb = 0
 
 unfoldable pub the-checks : ℕ
-unfolding tableRefusal tableChecks allAtMost linksChecks notAbove fieldsInRange countsInRange allHold firstMet slowLinks
+unfolding the-table slowLinks
 the-checks = 0
 
 pub i : Correct example.i

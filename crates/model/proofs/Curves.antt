@@ -56,6 +56,16 @@ sumOver-mono set f g [] h = le-refl 0
 sumOver-mono set f g (v ∷ links) h =
     add-le-add (provided-mono (set v) _ _ (h v (List·Memᴰ·head refl))) (sumOver-mono set f g links (λ u m. h u (List·Memᴰ·tail m)))
 
+pub sumOver-within : (set set' : VirtualLink → Bool) (f : VirtualLink → ℕ) (links : List VirtualLink) → ((v : VirtualLink) → List·Memᴰ v links → set v ≡ true → set' v ≡ true)
+    → sumOver set f links ≤ sumOver set' f links
+unfolding sumOver provided
+sumOver-within set set' f [] h = le-refl 0
+sumOver-within set set' f (v ∷ links) h = go (set v) refl (sumOver-within set set' f links (λ u m. h u (List·Memᴰ·tail m)))
+  where
+    go : (x : Bool) → set v ≡ x → sumOver set f links ≤ sumOver set' f links → provided (set v) (f v) + sumOver set f links ≤ provided (set' v) (f v) + sumOver set' f links
+    go true e ih = rw (e, h v (List·Memᴰ·head refl) e) (omega arith)
+    go false e ih = rw e (omega arith)
+
 pub sumOver-none : (set : VirtualLink → Bool) (f : VirtualLink → ℕ) (links : List VirtualLink) → anyOf set links ≡ false → sumOver set f links ≡ 0
 unfolding sumOver anyOf provided
 sumOver-none set f [] e = refl

@@ -10,7 +10,7 @@ use borrow.Author.Tests.{eqb-true}
 use Rattle.model.specs.Basics.{provided, sumTo, greatestTo, allTo, allHold, firstFrom, further, firstMet}
 use Rattle.model.specs.Units.{occupied}
 use Rattle.model.specs.Link.{bagOf, placeOf, anyOf, sumOver, greatestOver}
-use Rattle.model.specs.Table.{Table, countsInRange, fieldsInRange, notAbove, linksChecks, allAtMost, tableChecks, tableRefusal}
+use Rattle.model.specs.Table.{Table, countsInRange, fieldsInRange, notAbove, linksChecks, reservation, reservedOn, noneOversold, allAtMost, tableChecks, tableRefusal}
 use Rattle.model.specs.Arrival.{frameCurve, onLine, lineCurve, arrivalCurve}
 use Rattle.model.specs.Bounds.{ofPriority, upTo, beyond, ownArrivals, upArrivals, longest, blocking, holdTest, holdBy, holdOf, backlog, boundWithin, isThere, orZero, windowWithin, boundsRefusal, hold, bound, window}
 use Rattle.model.specs.TableFile.{tableBytes}
@@ -146,13 +146,17 @@ settled-by way sound (gives-next t line lines expected) e = absurd (let z : _≡
 pub settled : (e : Example) → computes literally e ≡ true → Correct e
 settled e x = settled-by literally literally-sound e x
 
--- names for all that an example computes with
+-- names for all that a table's checks compute with, and an example
+unfoldable pub the-table : ℕ
+unfolding tableRefusal tableChecks allAtMost noneOversold reservedOn reservation sumOver provided linksChecks notAbove fieldsInRange countsInRange allTo allHold firstMet
+the-table = 0
+
 unfoldable pub the-port : ℕ
-unfolding computes sameOutcomes sameOutcome sameNumbers outcomes run step acceptedOr judgeReport judge policeAt police checkedIf passedIf store storedIf hasRoom charged replenished admitted admits reportRefusal allChecks reportChecks frameChecks tickOf fit senderFit framesFit namesLink fresh bytesFreed advance ticks tick byteLeaves freedIf started startIfAny highestWaiting bytes framesHeld placeOf bagOf further firstMet allHold allTo tableRefusal tableChecks allAtMost linksChecks notAbove fieldsInRange countsInRange occupied flatMap
+unfolding the-table computes sameOutcomes sameOutcome sameNumbers outcomes run step acceptedOr judgeReport judge policeAt police checkedIf passedIf store storedIf hasRoom charged replenished admitted admits reportRefusal allChecks reportChecks frameChecks tickOf fit senderFit framesFit namesLink fresh bytesFreed advance ticks tick byteLeaves freedIf started startIfAny highestWaiting bytes framesHeld placeOf bagOf further occupied flatMap
 the-port = 0
 
 the-formulas : ℕ
-unfolding computes literally sameNumbers boundsRefusal hold orZero isThere boundWithin windowWithin backlog holdOf holdBy holdTest blocking longest upArrivals ownArrivals beyond upTo ofPriority arrivalCurve lineCurve onLine frameCurve greatestOver sumOver anyOf bagOf tableChecks allAtMost linksChecks notAbove fieldsInRange countsInRange provided sumTo greatestTo allTo allHold firstFrom firstMet occupied
+unfolding the-table computes literally sameNumbers boundsRefusal hold orZero isThere boundWithin windowWithin backlog holdOf holdBy holdTest blocking longest upArrivals ownArrivals beyond upTo ofPriority arrivalCurve lineCurve onLine frameCurve greatestOver anyOf bagOf sumTo greatestTo firstFrom occupied
 the-formulas = 0
 
 pub c : Correct example.c

@@ -8,7 +8,7 @@ use lib.ListN.{length, drop}
 use lib.Seq.{append-snoc}
 use Rattle.model.specs.Basics.{Check, firstMet, firstRefusal}
 use Rattle.model.specs.Link.{VirtualLink}
-use Rattle.model.specs.Table.{Table, blankTable, linkChecks, linksChecks, tableRefusal}
+use Rattle.model.specs.Table.{Table, blankTable, linkChecks, linksChecks, lineChecks, tableRefusal}
 use Rattle.model.specs.TableFile.{numberAt, headerChecks, linkRead, sizesRead, countRecordChecks, linkRecordChecks, sizesRecordChecks, Reading, stopOr, readSizes, readLinks, readTable}
 use Rattle.model.proofs.Checks.{Numbered, numbered-append, first-append, NoneMet, none-append, none-front, none-back, none-met, first-none}
 use Rattle.model.proofs.TableFacts.{parts-unmet}
@@ -36,10 +36,16 @@ unfoldable pub linkRecordsChecks : ℕ → ℕ → Option ℕ → List ℕ → L
 linkRecordsChecks lines zero previous rest = []
 linkRecordsChecks lines (suc n) previous rest = linkRecordChecks lines previous rest ++ linkRecordsChecks lines n (some (linkRead rest .number)) (drop 18 rest)
 
+-- those behind the last link: of the lines, then of the size record
+abbrev pub lastChecks : ℕ → List VirtualLink → List ℕ → List Check
+lastChecks lines links rest = lineChecks lines links ++ sizesRecordChecks rest
+
 unfoldable pub fileChecks : List ℕ → List Check
 fileChecks file =
+    let lines = numberAt 4 2 file in
     let n = numberAt 6 2 file in
-    countRecordChecks file ++ (linkRecordsChecks (numberAt 4 2 file) n none (drop 8 file) ++ sizesRecordChecks (behindLinks n (drop 8 file)))
+    let rest = drop 8 file in
+    countRecordChecks file ++ (linkRecordsChecks lines n none rest ++ lastChecks lines (linksIn n rest) (behindLinks n rest))
 
 -- ---- none has number 0
 
@@ -65,11 +71,13 @@ link-records-numbered lines (suc n) previous rest =
 pub file-numbered : (file : List ℕ) → Numbered (fileChecks file)
 unfolding fileChecks
 file-numbered file =
+    let lines = numberAt 4 2 file in
     let n = numberAt 6 2 file in
-    let links = linkRecordsChecks (numberAt 4 2 file) n none (drop 8 file) in
-    let sizes = sizesRecordChecks (behindLinks n (drop 8 file)) in
-    numbered-append (countRecordChecks file) (links ++ sizes) (count-record-numbered file)
-    (numbered-append links sizes (link-records-numbered (numberAt 4 2 file) n none (drop 8 file)) (sizes-record-numbered (behindLinks n (drop 8 file))))
+    let rest = drop 8 file in
+    let links = linkRecordsChecks lines n none rest in
+    let last = lastChecks lines (linksIn n rest) (behindLinks n rest) in
+    numbered-append (countRecordChecks file) (links ++ last) (count-record-numbered file)
+    (numbered-append links last (link-records-numbered lines n none rest) (omega arith, sizes-record-numbered (behindLinks n rest)))
 
 -- ---- the reader is these checks and this table
 
@@ -86,15 +94,15 @@ stop-append a b next each = rw (first-append a b each) (stop-first (firstMet a) 
 
 links-reading : (lines n : ℕ) (previous : Option ℕ) (links : List VirtualLink) (rest : List ℕ)
     → readLinks lines n previous links rest
-    ≡ stopOr (firstMet (linkRecordsChecks lines n previous rest ++ sizesRecordChecks (behindLinks n rest)))
+    ≡ stopOr (firstMet (linkRecordsChecks lines n previous rest ++ lastChecks lines (links ++ linksIn n rest) (behindLinks n rest)))
     (read (record { lines = lines; links = links ++ linksIn n rest; sizes = sizesRead (behindLinks n rest) }))
 unfolding readLinks readSizes linksIn behindLinks linkRecordsChecks linkRecordChecks sizesRecordChecks
-links-reading lines zero previous links rest = rw append-nil
+links-reading lines zero previous links rest = rw append-nil (stop-append (lineChecks lines links) (sizesRecordChecks rest) _ (omega arith))
 links-reading lines (suc n) previous links rest =
     let v = linkRead rest in
     let first = linkRecordChecks lines previous rest in
     let later = linkRecordsChecks lines n (some (v .number)) (drop 18 rest) in
-    let last = sizesRecordChecks (behindLinks n (drop 18 rest)) in
+    let last = lastChecks lines (links ++ (v ∷ linksIn n (drop 18 rest))) (behindLinks n (drop 18 rest)) in
     rw (links-reading lines n (some (v .number)) (links ++ (v ∷ [])) (drop 18 rest), append-snoc links v (linksIn n (drop 18 rest)), append-assoc first later last)
     (stop-append first (later ++ last) _ (link-record-numbered lines previous rest))
 
@@ -104,7 +112,8 @@ reading file =
     let lines = numberAt 4 2 file in
     let n = numberAt 6 2 file in
     let rest = drop 8 file in
-    rw (links-reading lines n none [] rest) (stop-append (countRecordChecks file) (linkRecordsChecks lines n none rest ++ sizesRecordChecks (behindLinks n rest)) _ (count-record-numbered file))
+    rw (links-reading lines n none [] rest)
+    (stop-append (countRecordChecks file) (linkRecordsChecks lines n none rest ++ lastChecks lines (linksIn n rest) (behindLinks n rest)) _ (count-record-numbered file))
 
 -- ---- what follows for every file
 
@@ -135,10 +144,11 @@ none-met-read file pass = reading file ∙ stop-past (firstMet (fileChecks file)
 
 -- ---- what the checks of a file tell
 
--- the checks of each record are not met
+-- the checks of each record are not met, nor that of the lines
 pub record FilePasses (file : List ℕ) : Type 0 where
   pub counts : NoneMet (countRecordChecks file)
   pub links : NoneMet (linkRecordsChecks (numberAt 4 2 file) (numberAt 6 2 file) none (drop 8 file))
+  pub lines : NoneMet (lineChecks (numberAt 4 2 file) (linksIn (numberAt 6 2 file) (drop 8 file)))
   pub sizes : NoneMet (sizesRecordChecks (behindLinks (numberAt 6 2 file) (drop 8 file)))
 
 pub file-passes : (file : List ℕ) → NoneMet (fileChecks file) → FilePasses file
@@ -147,9 +157,16 @@ file-passes file pass =
     let n = numberAt 6 2 file in
     let counts = countRecordChecks file in
     let links = linkRecordsChecks (numberAt 4 2 file) n none (drop 8 file) in
+    let lines = lineChecks (numberAt 4 2 file) (linksIn n (drop 8 file)) in
     let sizes = sizesRecordChecks (behindLinks n (drop 8 file)) in
-    let back = none-back counts (links ++ sizes) pass in
-    record { counts = none-front counts (links ++ sizes) pass; links = none-front links sizes back; sizes = none-back links sizes back }
+    let back = none-back counts (links ++ (lines ++ sizes)) pass in
+    let last = none-back links (lines ++ sizes) back in
+    record {
+      counts = none-front counts (links ++ (lines ++ sizes)) pass;
+      links = none-front links (lines ++ sizes) back;
+      lines = none-front lines sizes last;
+      sizes = none-back lines sizes last;
+    }
 
 pub passes-file : (file : List ℕ) → FilePasses file → NoneMet (fileChecks file)
 unfolding fileChecks
@@ -157,8 +174,9 @@ passes-file file p =
     let n = numberAt 6 2 file in
     let counts = countRecordChecks file in
     let links = linkRecordsChecks (numberAt 4 2 file) n none (drop 8 file) in
+    let lines = lineChecks (numberAt 4 2 file) (linksIn n (drop 8 file)) in
     let sizes = sizesRecordChecks (behindLinks n (drop 8 file)) in
-    none-append counts (links ++ sizes) (p .counts) (none-append links sizes (p .links) (p .sizes))
+    none-append counts (links ++ (lines ++ sizes)) (p .counts) (none-append links (lines ++ sizes) (p .links) (none-append lines sizes (p .lines) (p .sizes)))
 
 pub length-linksIn : (n : ℕ) (rest : List ℕ) → length (linksIn n rest) ≡ n
 unfolding linksIn
@@ -178,7 +196,7 @@ table-passes : (file : List ℕ) → FilePasses file → tableRefusal (tableIn f
 unfolding tableIn countRecordChecks sizesRecordChecks headerChecks
 table-passes file p =
     parts-unmet (tableIn file) (rw length-linksIn (p .counts .1 .1 .1)) (links-pass (numberAt 4 2 file) (numberAt 6 2 file) none (drop 8 file) (p .links))
-    (p .sizes .1 .1 .1 .0, tt)
+    (p .lines) (p .sizes .1 .1 .1 .0, tt)
 
 -- a table that is read passes the checks of tables
 pub read-passes : (file : List ℕ) → readTable file .refused ≡ 0 → tableRefusal (readTable file .table) ≡ 0

@@ -22,7 +22,7 @@ unfolding sumTo
 sumTo-zero zero = refl
 sumTo-zero (suc n) = omega (arith, sumTo-zero n)
 
-sumTo-add : (f g : ℕ → ℕ) (n : ℕ) → sumTo (λ k. f k + g k) n ≡ sumTo f n + sumTo g n
+pub sumTo-add : (f g : ℕ → ℕ) (n : ℕ) → sumTo (λ k. f k + g k) n ≡ sumTo f n + sumTo g n
 unfolding sumTo
 sumTo-add f g zero = refl
 sumTo-add f g (suc n) = omega (arith, sumTo-add f g n)

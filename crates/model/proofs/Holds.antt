@@ -13,7 +13,7 @@ use Rattle.model.specs.Basics.{allTo, allHold, firstFrom, Check, check, 
 use Rattle.model.specs.Table.{Table, tableChecks, tableRefusal}
 use Rattle.model.specs.Bounds.{ofPriority, upTo, ownArrivals, upArrivals, blocking, holdTest, holdBy, holdOf, isThere, orZero, boundsRefusal, hold}
 use Rattle.model.specs.Promises.{IsHold, HoldIsSmallest, HoldGrows}
-use Rattle.model.proofs.Checks.{AllTrue, all-true, all-to, to-all, first-past, none-met, numbered-append, none-front, none-back, first-none, NoneMet}
+use Rattle.model.proofs.Checks.{AllTrue, all-true, all-to, to-all, not-all, first-past, none-met, numbered-append, none-front, none-back, first-none, NoneMet}
 use Rattle.model.proofs.TableFacts.{table-numbered}
 use Rattle.model.proofs.Search.{IsFirst, found-first, found-none, first-sooner, is-first, is-none, climb, climb-below}
 use Rattle.model.proofs.Curves.{curve-grows}
@@ -94,7 +94,7 @@ climbed-past t p n a =
     (λ k l m. lt-leb _ _ (climbs-past t p n k l (omega (arith, leb→le 65_537 (climb (upArrivals t p) (blocking t p) n 1) a))))
 
 -- ---- of a table that has bounds
-there-is : (o : Option ℕ) → isThere o ≡ true → o ≡ some (orZero o)
+pub there-is : (o : Option ℕ) → isThere o ≡ true → o ≡ some (orZero o)
 unfolding isThere orZero
 there-is none e = absurd (let z : _≡_ {A = ℕ} 0 1 = cc in omega arith)
 there-is (some w) e = refl
@@ -123,13 +123,6 @@ has-bounds t e =
         (numbered-append (tableChecks t) (check 8 (not (allTo (λ p. isThere (holdOf t p)) 8)) ∷ []) (table-numbered t) (omega arith)) e
 
 -- ---- the refusal from the holds
-not-all : (test : ℕ → Bool) (n k : ℕ) → k < n → test k ≡ false → allTo test n ≡ false
-not-all test n k l e = go (allTo test n) refl
-  where
-    go : (b : Bool) → allTo test n ≡ b → b ≡ false
-    go false q = refl
-    go true q = absurd (let z : _≡_ {A = ℕ} 0 1 = let w : true ≡ false = sym (all-to test n q k l) ∙ e in cc in omega arith)
-
 module _ (t : Table) (passes : tableRefusal t ≡ 0) where
   past-table : boundsRefusal t ≡ firstMet (check 8 (not (allTo (λ p. isThere (holdOf t p)) 8)) ∷ [])
   unfolding boundsRefusal tableRefusal

@@ -19,6 +19,7 @@ pub mod Curves
 pub mod Holds
 pub mod BoundFacts
 pub mod Covering
+pub mod Reserving
 pub mod Peaks
 -- ---- the gate: what passes it is within the arrival curve; links that keep BAG and jitter
 pub mod Passed

@@ -1,19 +1,18 @@
 -- The examples of the next switch on the way: what its call gives, and two hops.
 use mathlib.Core.Path.{_≡_, refl}
-use mathlib.Core.Bool.{true, false}
 use mathlib.Core.Option.{none}
 use mathlib.Core.List.{List}
 use Prim.Native.Nat.{ℕ, suc, _+_, _-_}
 use native.Mathlib.Omega.{arith}
-use Rattle.model.specs.Basics.{done, also, Each, allTo, allHold, firstMet, firstRefusal}
+use Rattle.model.specs.Basics.{done, also, Each, allTo, firstRefusal}
 use Rattle.model.specs.Link.{VirtualLink}
 use Rattle.model.specs.Table.{Table, tableRefusal}
 use Rattle.model.specs.Bounds.{holdOf, orZero, boundsRefusal, hold}
-use Rattle.model.specs.NextTable.{nextLink, nextLinks, lineRefusal, jittersInRange, nextRefusal, nextOr, next}
+use Rattle.model.specs.NextTable.{nextLink, nextLinks, lineRefusal, jittersInRange, rowsRefusal, nextRefusal, nextOr, next}
 use Rattle.model.specs.Examples.{tableE, onward, noNext, linksE, variedE, tableJ, hops, Correct}
 use Rattle.model.specs.Examples as example
 use Rattle.model.proofs.Holds.{climbed, climbed-past, no-hold}
-use Rattle.model.proofs.Examples.{settled, the-port}
+use Rattle.model.proofs.Examples.{settled, the-table, the-port}
 use Rattle.model.proofs.ClimbedExamples.{the-climb, the-checks, Held, held, holdE, e-held}
 
 -- ---- the call, by the parts of its answer
@@ -23,16 +22,16 @@ module _ (t : Table) (line lines : ℕ) (fine : lineRefusal line lines ≡ 0) wh
   unheld e = rw (fine, e)
 
   module _ (rows : List VirtualLink) (has : boundsRefusal t ≡ 0) (are : nextLinks t line ≡ rows) where
-    passes : jittersInRange rows ≡ true → nextRefusal t line lines ≡ 0
-    unfolding nextRefusal firstRefusal firstMet
+    passes : rowsRefusal lines rows ≡ 0 → nextRefusal t line lines ≡ 0
+    unfolding nextRefusal firstRefusal
     passes e = rw (fine, has, are, e)
 
-    given : jittersInRange rows ≡ true → next t line lines ≡ onward lines rows
+    given : rowsRefusal lines rows ≡ 0 → next t line lines ≡ onward lines rows
     unfolding next nextOr
     given e = rw (passes e, are)
 
-    late : jittersInRange rows ≡ false → next t line lines ≡ noNext 21
-    unfolding next nextOr nextRefusal firstRefusal firstMet
+    late : rowsRefusal lines rows ≡ 21 → next t line lines ≡ noNext 21
+    unfolding next nextOr nextRefusal firstRefusal
     late e = rw (fine, has, are, e)
 
 -- the holds of E, whatever codes, least lengths and jitters within the first BAG
@@ -44,9 +43,9 @@ module _ (code least jitter code' jitter' : ℕ) (k : Held (variedE code least j
   unfolding nextLinks nextLink
   rows-are = rw (k .hold-is 0 (omega arith), k .hold-is 1 (omega arith))
 
--- names for what the line's and the jitters' checks compute with
+-- names for what the checks of the line and of the rows compute with
 the-call : ℕ
-unfolding Correct lineRefusal jittersInRange allHold firstMet
+unfolding the-table Correct lineRefusal rowsRefusal jittersInRange
 the-call = 0
 
 pub nextE : Correct example.nextE

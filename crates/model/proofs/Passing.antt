@@ -1,21 +1,23 @@
--- A table that passes: counts, fields and sizes are in range, the numbers rise. A check more of a table is a field more.
+-- A table that passes: counts, fields and sizes are in range, the numbers rise, no line is oversold. A check more of a table is a field more.
 use mathlib.Core.Path.{_≡_}
+use mathlib.Core.Bool.{true}
 use mathlib.Core.Option.{Option, none, some}
-use mathlib.Core.List.{List, [], _∷_}
+use mathlib.Core.List.{List, [], _∷_, List·Memᴰ, List·Memᴰ·head, List·Memᴰ·tail}
 use Prim.Native.Nat.{ℕ, zero, suc, _<_}
 use native.Mathlib.Omega.{arith}
 use borrow.Author.Tests.{leb-false, not-false}
 use lib.ListN.{length}
 use Rattle.model.specs.Link.{VirtualLink, linkAt}
-use Rattle.model.specs.Table.{Table, countsInRange, fieldsInRange, notAbove, linkChecks, linksChecks, tableRefusal}
+use Rattle.model.specs.Table.{Table, countsInRange, fieldsInRange, notAbove, linkChecks, linksChecks, noneOversold, tableRefusal}
 use Rattle.model.proofs.Checks.{NoneMet, none-back}
-use Rattle.model.proofs.TableFacts.{CountsFit, counts-fit, FieldsFit, fields-fit, SizesFit, sizes-fit, counts-unmet, links-unmet, sizes-unmet}
-use Rattle.model.proofs.Gate.{Rising}
+use Rattle.model.proofs.TableFacts.{CountsFit, counts-fit, FieldsFit, fields-fit, SizesFit, sizes-fit, counts-unmet, links-unmet, lines-unmet, sizes-unmet}
+use Rattle.model.proofs.Gate.{Rising, mem-at}
 
 pub record Passing (t : Table) : Type 0 where
   pub counts : CountsFit (t .lines) (length (t .links))
   pub fields : (i : ℕ) → i < length (t .links) → FieldsFit (t .lines) (linkAt (t .links) i)
   pub rising : Rising (t .links)
+  pub carried : noneOversold (t .lines) (t .links) ≡ true
   pub sizes : SizesFit (t .sizes)
 
 module _ (lines : ℕ) where
@@ -23,11 +25,10 @@ module _ (lines : ℕ) where
   unfolding linksChecks
   rest-pass previous v links pass = none-back (linkChecks lines previous v) (linksChecks lines (some (v .number)) links) pass
 
-  fields-pass : (previous : Option ℕ) (links : List VirtualLink) → NoneMet (linksChecks lines previous links) → (i : ℕ) → i < length links → FieldsFit lines (linkAt links i)
+  pub members-pass : (previous : Option ℕ) (links : List VirtualLink) → NoneMet (linksChecks lines previous links) → {v : VirtualLink} → List·Memᴰ v links → FieldsFit lines v
   unfolding linksChecks
-  fields-pass previous [] pass i l = absurd (omega arith)
-  fields-pass previous (v ∷ links) pass zero l = fields-fit lines v (not-false (fieldsInRange lines v) (pass .0))
-  fields-pass previous (v ∷ links) pass (suc i) l = fields-pass (some (v .number)) links (rest-pass previous v links pass) i (omega arith)
+  members-pass previous (u ∷ links) pass (List·Memᴰ·head e) = rw e (fields-fit lines u (not-false (fieldsInRange lines u) (pass .0)))
+  members-pass previous (u ∷ links) pass (List·Memᴰ·tail m) = members-pass (some (u .number)) links (rest-pass previous u links pass) m
 
   numbers-above : (m : ℕ) (links : List VirtualLink) → NoneMet (linksChecks lines (some m) links) → (i : ℕ) → i < length links → m < linkAt links i .number
   unfolding linksChecks notAbove
@@ -46,7 +47,8 @@ pub is-passing : (t : Table) → tableRefusal t ≡ 0 → Passing t
 is-passing t e =
     record {
       counts = counts-fit (t .lines) (length (t .links)) (not-false (countsInRange (t .lines) (length (t .links))) (counts-unmet t e .0));
-      fields = fields-pass (t .lines) none (t .links) (links-unmet t e);
+      fields = λ i l. members-pass (t .lines) none (t .links) (links-unmet t e) (mem-at (t .links) i l);
       rising = numbers-rise (t .lines) none (t .links) (links-unmet t e);
+      carried = not-false (noneOversold (t .lines) (t .links)) (lines-unmet t e .0);
       sizes = sizes-fit (t .sizes) (sizes-unmet t e);
     }

@@ -17,7 +17,7 @@ use Rattle.model.specs.TableFile.{numberAt, recordBytes, countsBody, lin
 use Rattle.model.proofs.Lists.{getD-eight}
 use Rattle.model.proofs.Bytes.{from-toBytes, number-among}
 use Rattle.model.proofs.Checks.{NoneMet, none-append, none-front, none-back}
-use Rattle.model.proofs.TableFacts.{FieldsFit, fields-fit, SizesFit, sizes-fit, counts-unmet, links-unmet, sizes-unmet}
+use Rattle.model.proofs.TableFacts.{FieldsFit, fields-fit, SizesFit, sizes-fit, counts-unmet, links-unmet, lines-unmet, sizes-unmet}
 use Rattle.model.proofs.Passing.{is-passing}
 use Rattle.model.proofs.FileRead.{linksIn, behindLinks, tableIn, linkRecordsChecks, FilePasses, passes-file, none-met-read}
 use Rattle.model.proofs.FileWrite.{length-record, length-countsBody, length-linkBody, length-sizesBody, HeaderFits, fits-header, record-header}
@@ -151,6 +151,7 @@ read-written t e =
     record {
       counts = counts-back lines n rest (omega arith) (omega arith) (counts-unmet t e);
       links = rw (l, c, b) (links .pass);
+      lines = rw (l, c, b, links .links-are) (lines-unmet t e);
       sizes = rw (c, b, links .behind-is) (sizes-record-back (t .sizes) (sizes-unmet t e));
     } in
     rw append-assoc (none-met-read file (passes-file file parts) ∙ rw (l, c, b, links .links-are, links .behind-is, sizes-back (t .sizes) (p .sizes)))

@@ -10,7 +10,7 @@ use borrow.Author.Tests.{leb-true, ltb-true, eqb-true, not-false}
 use lib.ListN.{length, getD}
 use Rattle.model.specs.Basics.{Check}
 use Rattle.model.specs.Link.{VirtualLink}
-use Rattle.model.specs.Table.{Table, countsInRange, countChecks, fieldsInRange, linkChecks, linksChecks, allAtMost, sizeChecks, tableChecks, tableRefusal}
+use Rattle.model.specs.Table.{Table, countsInRange, countChecks, fieldsInRange, linkChecks, linksChecks, lineChecks, allAtMost, sizeChecks, tableChecks, tableRefusal}
 use Rattle.model.proofs.Checks.{all-true, Numbered, numbered-append, NoneMet, none-append, none-front, none-back, none-met, first-none}
 
 pub record CountsFit (lines n : ℕ) : Type 0 where
@@ -83,7 +83,10 @@ unfolding tableChecks
 table-numbered t =
     let counts = countChecks (t .lines) (length (t .links)) in
     let links = linksChecks (t .lines) none (t .links) in
-    numbered-append (counts ++ links) (sizeChecks (t .sizes)) (numbered-append counts links (omega arith) (links-numbered (t .lines) none (t .links))) (omega arith)
+    let lines = lineChecks (t .lines) (t .links) in
+    numbered-append (counts ++ links ++ lines) (sizeChecks (t .sizes))
+    (numbered-append (counts ++ links) lines (numbered-append counts links (omega arith) (links-numbered (t .lines) none (t .links))) (omega arith))
+    (omega arith)
 
 -- a table meets no check exactly if it meets none of each part
 module _ (t : Table) where
@@ -93,26 +96,38 @@ module _ (t : Table) where
   links : List Check
   links = linksChecks (t .lines) none (t .links)
 
+  lines : List Check
+  lines = lineChecks (t .lines) (t .links)
+
   sizes : List Check
   sizes = sizeChecks (t .sizes)
 
-  pub parts-unmet : NoneMet (countChecks (t .lines) (length (t .links))) → NoneMet (linksChecks (t .lines) none (t .links)) → NoneMet (sizeChecks (t .sizes)) → tableRefusal t ≡ 0
-  unfolding tableRefusal tableChecks counts links sizes
-  parts-unmet c l s = first-none (counts ++ links ++ sizes) (none-append (counts ++ links) sizes (none-append counts links c l) s)
+  pub parts-unmet : NoneMet (countChecks (t .lines) (length (t .links))) → NoneMet (linksChecks (t .lines) none (t .links)) → NoneMet (lineChecks (t .lines) (t .links))
+      → NoneMet (sizeChecks (t .sizes)) → tableRefusal t ≡ 0
+  unfolding tableRefusal tableChecks counts links lines sizes
+  parts-unmet c l o s =
+      first-none (counts ++ links ++ lines ++ sizes) (none-append (counts ++ links ++ lines) sizes (none-append (counts ++ links) lines (none-append counts links c l) o) s)
 
   module _ (e : tableRefusal t ≡ 0) where
-    unmet : NoneMet (counts ++ links ++ sizes)
-    unfolding tableRefusal tableChecks counts links sizes
+    unmet : NoneMet (counts ++ links ++ lines ++ sizes)
+    unfolding tableRefusal tableChecks counts links lines sizes
     unmet = none-met (tableChecks t) (table-numbered t) e
+
+    before-sizes : NoneMet (counts ++ links ++ lines)
+    before-sizes = none-front (counts ++ links ++ lines) sizes unmet
 
     pub counts-unmet : NoneMet (countChecks (t .lines) (length (t .links)))
     unfolding counts
-    counts-unmet = none-front counts links (none-front (counts ++ links) sizes unmet)
+    counts-unmet = none-front counts links (none-front (counts ++ links) lines before-sizes)
 
     pub links-unmet : NoneMet (linksChecks (t .lines) none (t .links))
     unfolding links
-    links-unmet = none-back counts links (none-front (counts ++ links) sizes unmet)
+    links-unmet = none-back counts links (none-front (counts ++ links) lines before-sizes)
+
+    pub lines-unmet : NoneMet (lineChecks (t .lines) (t .links))
+    unfolding lines
+    lines-unmet = none-back (counts ++ links) lines before-sizes
 
     pub sizes-unmet : NoneMet (sizeChecks (t .sizes))
     unfolding sizes
-    sizes-unmet = none-back (counts ++ links) sizes unmet
+    sizes-unmet = none-back (counts ++ links ++ lines) sizes unmet

@@ -1,7 +1,7 @@
 -- The theorems of specs/Promises.antt and specs/Examples.antt, each under its name.
 use Rattle.model.specs.Basics.{also}
 use Rattle.model.proofs.Lists.{each-of-both}
-use Rattle.model.specs.Promises.{ReadsWritten, WritesRead, FileLength, BagConstants, LastBag, DemandThree, NeverUnfit, FitnessKept, LengthsKept, TurnsAreRuns, DemandThreeOfTurns, CurveGrows, HoldIsSmallest, HoldGrows, BoundIsGreatest, HoldCovers, NoneAppears, DeparturesInTime, DeparturesSpaced, PassedKeep, DigitsRead, DigitsWritten, AmongByDistance, OneOfTwo, SelectedAlways}
+use Rattle.model.specs.Promises.{ReadsWritten, WritesRead, FileLength, BagConstants, LastBag, DemandThree, NeverUnfit, FitnessKept, LengthsKept, TurnsAreRuns, DemandThreeOfTurns, CurveGrows, HoldIsSmallest, HoldGrows, BoundIsGreatest, HoldCovers, HoldCarries, NoneRefusedNow, OversoldUnbounded, RowsCarried, OversoldUnfit, NoneAppears, DeparturesInTime, DeparturesSpaced, PassedKeep, DigitsRead, DigitsWritten, AmongByDistance, OneOfTwo, SelectedAlways}
 use Rattle.model.specs.Examples.{ExamplesCorrect}
 use Rattle.model.proofs.Digits as Digits
 use Rattle.model.proofs.ReadBack as ReadBack
@@ -11,6 +11,7 @@ use Rattle.model.proofs.Curves as Curves
 use Rattle.model.proofs.Holds as Holds
 use Rattle.model.proofs.BoundFacts as BoundFacts
 use Rattle.model.proofs.Covering as Covering
+use Rattle.model.proofs.Reserving as Reserving
 use Rattle.model.proofs.Fitness as Fitness
 use Rattle.model.proofs.FitKept as FitKept
 use Rattle.model.proofs.Demand as Demand
@@ -73,6 +74,21 @@ bound-is-greatest = BoundFacts.bound-greatest
 
 pub hold-covers : HoldCovers
 hold-covers = Covering.hold-covers
+
+pub hold-carries : HoldCarries
+hold-carries = Reserving.hold-carries
+
+pub none-refused-now : NoneRefusedNow
+none-refused-now = Reserving.none-refused-now
+
+pub oversold-unbounded : OversoldUnbounded
+oversold-unbounded = Reserving.oversold-unbounded
+
+pub rows-carried : RowsCarried
+rows-carried = Reserving.rows-carried
+
+pub oversold-unfit : OversoldUnfit
+oversold-unfit = Reserving.oversold-unfit
 
 pub none-appears : NoneAppears
 none-appears = Fitness.none-appears

@@ -73,7 +73,7 @@ windowWithin t p hold =
 
 -- ---- the answer of the bound calculation
 
--- 8: "bounds: 3 to 6, then no hold"; "If any of the eight has none, the table has no bounds (8)"
+-- 8: "bounds: 3 to 6, then no hold", 23 among them; "If any of the eight has none, the table has no bounds (8)"
 unfoldable pub boundsRefusal : Table → ℕ
 boundsRefusal t = firstMet (tableChecks t ++ (check 8 (not (allTo (λ p. isThere (holdOf t p)) 8)) ∷ []))
 

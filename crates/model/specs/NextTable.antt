@@ -7,7 +7,7 @@ use lib.ListN.{replicate}
 use Rattle.model.specs.Basics.{allHold, check, firstMet, firstRefusal}
 use Rattle.model.specs.Units.{greatestJitter}
 use Rattle.model.specs.Link.{VirtualLink}
-use Rattle.model.specs.Table.{Table, blankTable}
+use Rattle.model.specs.Table.{Table, blankTable, lineChecks}
 use Rattle.model.specs.TableFile.{readTable, Writing, writeTable}
 use Rattle.model.specs.Bounds.{boundsRefusal, hold}
 
@@ -43,11 +43,13 @@ unfoldable pub jittersInRange : List VirtualLink → Bool
 jittersInRange [] = true
 jittersInRange (v ∷ links) = leb (v .jitter) greatestJitter && jittersInRange links
 
--- ".. before the table's own checks; 21 .. after 8"
+-- "The chain call of M-105 refuses such rows too": 21, then 23. That 23 never comes here is the theorem RowsCarried
+unfoldable pub rowsRefusal : ℕ → List VirtualLink → ℕ
+rowsRefusal lines rows = firstMet (check 21 (not (jittersInRange rows)) ∷ lineChecks lines rows)
+
+-- ".. before the table's own checks; 21 .. after 8"; 23 "in the chain, after 21"
 unfoldable pub nextRefusal : Table → ℕ → ℕ → ℕ
-nextRefusal t line lines =
-    firstRefusal (lineRefusal line lines)
-    (firstRefusal (boundsRefusal t) (firstMet (check 21 (not (jittersInRange (nextLinks t line))) ∷ [])))
+nextRefusal t line lines = firstRefusal (lineRefusal line lines) (firstRefusal (boundsRefusal t) (rowsRefusal lines (nextLinks t line)))
 
 -- a refusal and no table, or 0 and the table with sizes 0
 pub record Next : Type 0 where

@@ -6,13 +6,15 @@ use mathlib.Core.List.{List, [], _∷_, _++_}
 use Prim.Native.Nat.{ℕ, _+_, _-_, _%_, _^_, _≤_, _<_}
 use lib.Dec.{eqb, leb}
 use lib.ListN.{length, getD}
-use Rattle.model.specs.Basics.{eight}
-use Rattle.model.specs.Link.{VirtualLink, bagOf, standardBags, linkAt, anyOf}
-use Rattle.model.specs.Table.{Table, tableRefusal}
+use Rattle.model.specs.Basics.{eight, allTo, Check, check, firstMet}
+use Rattle.model.specs.Units.{lineCapacity}
+use Rattle.model.specs.Link.{VirtualLink, bagOf, standardBags, linkAt, anyOf, sumOver}
+use Rattle.model.specs.Table.{Table, countChecks, linksChecks, reservation, noneOversold, lineChecks, sizeChecks, tableRefusal}
 use Rattle.model.specs.Digits.{digitsOf, fromDigits, AllDigits}
 use Rattle.model.specs.TableFile.{tableBytes, readTable, fileLength}
 use Rattle.model.specs.Arrival.{arrivalCurve}
-use Rattle.model.specs.Bounds.{ofPriority, upArrivals, blocking, holdBy, holdOf, backlog, boundsRefusal, hold, bound, window}
+use Rattle.model.specs.Bounds.{ofPriority, upArrivals, blocking, holdBy, holdOf, backlog, isThere, boundsRefusal, hold, bound, window}
+use Rattle.model.specs.NextTable.{nextLinks}
 use Rattle.model.specs.Machine.{Frame, Departure, advance, framesHeld}
 use Rattle.model.specs.Port.{Port}
 use Rattle.model.specs.Fitness.{fit}
@@ -119,6 +121,35 @@ BoundIsGreatest = (t : Table) → boundsRefusal t ≡ 0 → (p : ℕ) → p < 8 
 -- for the next switch is never truncated
 abbrev pub HoldCovers : Type 0
 HoldCovers = (t : Table) → boundsRefusal t ≡ 0 → (i : ℕ) → i < length (t .links) → linkAt (t .links) i .greatest ≤ hold t (linkAt (t .links) i .priority)
+
+-- ---- lines oversold
+
+-- the checks of a table before 23 was among them, and those of its bounds
+unfoldable pub formerChecks : Table → List Check
+formerChecks t = countChecks (t .lines) (length (t .links)) ++ linksChecks (t .lines) none (t .links) ++ sizeChecks (t .sizes)
+
+unfoldable pub formerBoundsRefusal : Table → ℕ
+formerBoundsRefusal t = firstMet (formerChecks t ++ (check 8 (not (allTo (λ p. isThere (holdOf t p)) 8)) ∷ []))
+
+-- where the last priority has a hold, all links together, of whatever line, reserve no more than one line carries
+abbrev pub HoldCarries : Type 0
+HoldCarries = (t : Table) → firstMet (formerChecks t) ≡ 0 → (w : ℕ) → holdOf t 7 ≡ some w → sumOver (λ v. true) reservation (t .links) ≤ lineCapacity
+
+-- "a table that has bounds is oversold on no line": each that had bounds before has them now
+abbrev pub NoneRefusedNow : Type 0
+NoneRefusedNow = (t : Table) → formerBoundsRefusal t ≡ 0 → (noneOversold (t .lines) (t .links) ≡ true) × (boundsRefusal t ≡ 0)
+
+-- "an oversold table that passes the rest has no bounds": "23 names the line where 8 only said no"
+abbrev pub OversoldUnbounded : Type 0
+OversoldUnbounded = (t : Table) → firstMet (formerChecks t) ≡ 0 → noneOversold (t .lines) (t .links) ≡ false → (formerBoundsRefusal t ≡ 8) × (boundsRefusal t ≡ 23)
+
+-- "the chain's 23 for rows can never come": those of a table that has bounds pass it, whatever line and line count
+abbrev pub RowsCarried : Type 0
+RowsCarried = (t : Table) → boundsRefusal t ≡ 0 → (line lines : ℕ) → firstMet (lineChecks lines (nextLinks t line)) ≡ 0
+
+-- "a port with such a table is not fit"
+abbrev pub OversoldUnfit : Type 0
+OversoldUnfit = (t : Table) (s : Port) → noneOversold (t .lines) (t .links) ≡ false → fit t s ≡ false
 
 -- the frames freed and those left are the frames held before: an advance frees no more than are held
 abbrev pub NoneAppears : Type 0

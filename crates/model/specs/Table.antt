@@ -2,12 +2,12 @@
 use mathlib.Core.Bool.{Bool, true, false, _&&_, not}
 use mathlib.Core.Option.{Option, none, some}
 use mathlib.Core.List.{List, [], _∷_, _++_}
-use Prim.Native.Nat.{ℕ, _+_}
+use Prim.Native.Nat.{ℕ, _+_, _-_, _*_, _^_}
 use lib.Dec.{eqb, leb, ltb}
 use lib.ListN.{length, getD, replicate}
-use Rattle.model.specs.Basics.{allHold, Check, check, firstMet}
-use Rattle.model.specs.Units.{leastLength, greatestLength, greatestJitter}
-use Rattle.model.specs.Link.{VirtualLink}
+use Rattle.model.specs.Basics.{allTo, allHold, Check, check, firstMet}
+use Rattle.model.specs.Units.{leastLength, greatestLength, greatestJitter, lineCapacity}
+use Rattle.model.specs.Link.{VirtualLink, sumOver}
 
 pub record Table : Type 0 where
   -- the line count
@@ -58,6 +58,20 @@ unfoldable pub linksChecks : ℕ → Option ℕ → List VirtualLink → List Ch
 linksChecks lines previous [] = []
 linksChecks lines previous (v ∷ links) = linkChecks lines previous v ++ linksChecks lines (some (v .number)) links
 
+-- "the sum over its links of L × 2^(7 − code)": the bandwidth that they reserve on a line, in wire bytes for each 1,600,000 ticks
+unfoldable pub reservation : VirtualLink → ℕ
+reservation v = v .greatest * 2 ^ (7 - v .code)
+
+unfoldable pub reservedOn : List VirtualLink → ℕ → ℕ
+reservedOn links ℓ = sumOver (λ v. eqb (v .line) ℓ) reservation links
+
+-- 23: "a line if the sum .. exceeds 1,600,000". Oversold: the paper's word for a line on which more is reserved than it carries
+unfoldable pub noneOversold : ℕ → List VirtualLink → Bool
+noneOversold lines links = allTo (λ ℓ. leb (reservedOn links ℓ) lineCapacity) lines
+
+abbrev pub lineChecks : ℕ → List VirtualLink → List Check
+lineChecks lines links = check 23 (not (noneOversold lines links)) ∷ []
+
 -- 6: "eight buffer sizes, .. 0 to 16,384"
 unfoldable pub allAtMost : ℕ → List ℕ → Bool
 allAtMost most [] = true
@@ -66,9 +80,14 @@ allAtMost most (n ∷ ns) = leb n most && allAtMost most ns
 abbrev pub sizeChecks : List ℕ → List Check
 sizeChecks sizes = check 6 (not (eqb (length sizes) 8 && allAtMost 16_384 sizes)) ∷ []
 
--- the checks 3 to 6 of a table, in the file's order, and the first that it meets
+-- the checks of a table by itself, in the file's order, and the first that it meets: counts (3), links (4, then 5, of each), lines (23),
+-- "after the last virtual link's record and before any check of the size record", sizes (6)
 unfoldable pub tableChecks : Table → List Check
-tableChecks t = countChecks (t .lines) (length (t .links)) ++ linksChecks (t .lines) none (t .links) ++ sizeChecks (t .sizes)
+tableChecks t =
+    countChecks (t .lines) (length (t .links))
+    ++ linksChecks (t .lines) none (t .links)
+    ++ lineChecks (t .lines) (t .links)
+    ++ sizeChecks (t .sizes)
 
 unfoldable pub tableRefusal : Table → ℕ
 tableRefusal t = firstMet (tableChecks t)

@@ -8,7 +8,7 @@ use lib.ListN.{length, take, drop}
 use Rattle.model.specs.Basics.{eight, Check, check, firstMet}
 use Rattle.model.specs.Digits.{digitsOf, fromDigits}
 use Rattle.model.specs.Link.{VirtualLink}
-use Rattle.model.specs.Table.{Table, blankTable, countChecks, linkChecks, sizeChecks, tableChecks}
+use Rattle.model.specs.Table.{Table, blankTable, countChecks, linkChecks, lineChecks, sizeChecks, tableChecks}
 
 -- "little-endian": a number in k bytes, the lowest first; and the number that bytes are
 abbrev pub toBytes : ℕ → ℕ → List ℕ
@@ -103,9 +103,9 @@ readSizes lines links rest =
     stopOr (firstMet (sizesRecordChecks rest))
     (record { refused = 0; table = record { lines = lines; links = links; sizes = sizesRead rest } })
 
--- n records of kind 2 are left; links: those read
+-- n records of kind 2 are left; links: those read. 23 stands behind the last of them
 unfoldable pub readLinks : ℕ → ℕ → Option ℕ → List VirtualLink → List ℕ → Reading
-readLinks lines zero previous links rest = readSizes lines links rest
+readLinks lines zero previous links rest = stopOr (firstMet (lineChecks lines links)) (readSizes lines links rest)
 readLinks lines (suc n) previous links rest =
     let v = linkRead rest in
     let next = readLinks lines n (some (v .number)) (links ++ (v ∷ [])) (drop 18 rest) in
@@ -135,6 +135,6 @@ unfoldable pub wroteOr : ℕ → Table → List ℕ → Writing
 wroteOr zero t output = record { refused = 0; written = fileLength t; output = tableBytes t ++ drop (fileLength t) output }
 wroteOr (suc n) t output = record { refused = suc n; written = 0; output = output }
 
--- 9: "writer: 3 to 6, then output below 44 + 18 × n"; "bytes after them stay"; "A refusal .. writes to no lent buffer"
+-- 9: "writer: 3 to 6, then output below 44 + 18 × n", 23 among them; "bytes after them stay"; "A refusal .. writes to no lent buffer"
 unfoldable pub writeTable : Table → List ℕ → Writing
 writeTable t output = wroteOr (firstMet (tableChecks t ++ (check 9 (ltb (length output) (fileLength t)) ∷ []))) t output

@@ -27,3 +27,7 @@ occupied n = n - unkept
 -- "A buffer may now contain 256 frames, and fitness allows a queue as many": 16,384 / 64
 abbrev pub mostFrames : ℕ
 mostFrames = 256
+
+-- "exceeds 1,600,000": the wire bytes that a line carries in as many ticks, the greatest BAG
+abbrev pub lineCapacity : ℕ
+lineCapacity = 1_600_000

@@ -11,14 +11,14 @@ use denote.Laws.{Is}
 use denote.Struct.Declared.{row}
 use Rattle.model.specs.Basics.{firstMet}
 use Rattle.model.specs.Link.{blankLink}
-use Rattle.model.specs.Table.{countsInRange, linkChecks, linksChecks, sizeChecks, tableRefusal}
+use Rattle.model.specs.Table.{countsInRange, linkChecks, linksChecks, lineChecks, sizeChecks, tableRefusal}
 use Rattle.model.proofs.TableFacts.{counts-fit}
 use Rattle.table.specs.declared.Table.{Table as TableRecord}
 use Rattle.table.specs.Checks.{previousOf}
 use Rattle.table.specs.View.{viewLink, blankFields, viewLinks, viewTable}
 use Rattle.table.proofs.Table.{the-type}
 use Rattle.table.proofs.Shape.{sized, count-shown, link-shown}
-use Rattle.table.proofs.Refusals.{link-stops, link-passes, previous-more, counts-bad, links-bad, sizes-last}
+use Rattle.table.proofs.Refusals.{link-stops, link-passes, previous-more, counts-bad, links-bad, lines-bad, sizes-last}
 
 none-left : (lines : ℕ) (t : TableRecord) (previous i : ℕ) → t .count ≤ i → firstMet (linksChecks lines (previousOf i previous) (drop i (viewLinks t))) ≡ 0
 unfolding linksChecks firstMet
@@ -66,6 +66,11 @@ module _ (t : TableRecord) where
     unfolding viewTable
     links-refused z = links-bad (viewTable t) (counts-shown ∙ e) r q z
 
-    pub sizes-decide : r ≡ 0 → (s : ℕ) → s ≡ firstMet (sizeChecks (t .sizes)) → s ≡ tableRefusal (viewTable t)
-    unfolding viewTable
-    sizes-decide z s p = sizes-last (viewTable t) (counts-shown ∙ e) r q z s p
+    module _ (z : r ≡ 0) (o : ℕ) (p : o ≡ firstMet (lineChecks (t .lines) (viewLinks t))) where
+      pub lines-refused : (o ≡ 0 → ⊥) → o ≡ tableRefusal (viewTable t)
+      unfolding viewTable
+      lines-refused y = lines-bad (viewTable t) (counts-shown ∙ e) r q z o p y
+
+      pub sizes-decide : o ≡ 0 → (s : ℕ) → s ≡ firstMet (sizeChecks (t .sizes)) → s ≡ tableRefusal (viewTable t)
+      unfolding viewTable
+      sizes-decide y s x = sizes-last (viewTable t) (counts-shown ∙ e) r q z o p y s x

@@ -2,7 +2,7 @@
 use mathlib.Core.Path.{_≡_, refl, sym, _∙_}
 use mathlib.Core.Bool.{true, false}
 use mathlib.Core.Option.{Option, none, some}
-use mathlib.Core.List.{List, _++_}
+use mathlib.Core.List.{List, _++_, append-assoc}
 use Prim.Native.Nat.{ℕ, zero, suc, _+_, _≤_, _<_}
 use native.Mathlib.Numerals.{add-one}
 use native.Mathlib.Omega.{arith}
@@ -11,7 +11,7 @@ use lib.ListN.{length, getD, drop}
 use lib.Seq.{drop-cons}
 use Rattle.model.specs.Basics.{Check, firstMet, firstRefusal}
 use Rattle.model.specs.Link.{VirtualLink, blankLink}
-use Rattle.model.specs.Table.{Table, fieldsInRange, notAbove, countsInRange, linkChecks, linksChecks, sizeChecks, tableChecks, tableRefusal}
+use Rattle.model.specs.Table.{Table, fieldsInRange, notAbove, countsInRange, linkChecks, linksChecks, lineChecks, sizeChecks, tableChecks, tableRefusal}
 use Rattle.model.proofs.Checks.{Numbered, first-append}
 use Rattle.model.proofs.TableFacts.{links-numbered}
 use Rattle.table.specs.Checks.{previousOf}
@@ -105,13 +105,28 @@ module _ (t : Table) where
   counts-bad e = rw e
 
   module _ (e : countsInRange (t .lines) (length (t .links)) ≡ true) (r : ℕ) (q : r ≡ firstMet (linksChecks (t .lines) none (t .links))) where
-    behind-counts : tableRefusal t ≡ firstMet (linksChecks (t .lines) none (t .links) ++ sizeChecks (t .sizes))
+    abbrev links : List Check
+    links = linksChecks (t .lines) none (t .links)
+
+    abbrev lines : List Check
+    lines = lineChecks (t .lines) (t .links)
+
+    abbrev sizes : List Check
+    sizes = sizeChecks (t .sizes)
+
+    behind-counts : tableRefusal t ≡ firstMet (links ++ (lines ++ sizes))
     unfolding tableRefusal tableChecks firstMet
-    behind-counts = rw e
+    behind-counts = rw (e, append-assoc links lines sizes)
 
     pub links-bad : (r ≡ 0 → ⊥) → r ≡ tableRefusal t
-    links-bad z = rw behind-counts (stops-in-front (linksChecks (t .lines) none (t .links)) (sizeChecks (t .sizes)) (links-numbered (t .lines) none (t .links)) r q z)
+    links-bad z = rw behind-counts (stops-in-front links (lines ++ sizes) (links-numbered (t .lines) none (t .links)) r q z)
 
-    pub sizes-last : r ≡ 0 → (s : ℕ) → s ≡ firstMet (sizeChecks (t .sizes)) → s ≡ tableRefusal t
-    sizes-last z s p =
-        p ∙ sym (behind-counts ∙ goes-on-behind (linksChecks (t .lines) none (t .links)) (sizeChecks (t .sizes)) (links-numbered (t .lines) none (t .links)) r q z)
+    module _ (z : r ≡ 0) (o : ℕ) (p : o ≡ firstMet (lineChecks (t .lines) (t .links))) where
+      behind-links : tableRefusal t ≡ firstMet (lines ++ sizes)
+      behind-links = behind-counts ∙ goes-on-behind links (lines ++ sizes) (links-numbered (t .lines) none (t .links)) r q z
+
+      pub lines-bad : (o ≡ 0 → ⊥) → o ≡ tableRefusal t
+      lines-bad y = rw behind-links (stops-in-front lines sizes (omega arith) o p y)
+
+      pub sizes-last : o ≡ 0 → (s : ℕ) → s ≡ firstMet (sizeChecks (t .sizes)) → s ≡ tableRefusal t
+      sizes-last y s x = x ∙ sym (behind-links ∙ goes-on-behind lines sizes (omega arith) o p y)

@@ -31,7 +31,7 @@ sized t vs p =
     }
 
 -- ---- the view
-getD-joined : (numbers : List ℕ) (links : List LinkFields) (i : ℕ) → i < length numbers → i < length links →
+pub getD-joined : (numbers : List ℕ) (links : List LinkFields) (i : ℕ) → i < length numbers → i < length links →
     getD (paired numbers links) i blankLink ≡ viewLink (getD numbers i 0) (getD links i blankFields)
 unfolding paired
 getD-joined [] links i h k = absurd (omega arith)

@@ -1,18 +1,24 @@
-// The checks of a table: counts (3), each link (4, then 5), sizes (6).
+// The checks of a table: counts (3), each link (4, then 5), lines (23), sizes (6).
 use crate::Table;
 use crate::VirtualLink;
+use numbers::excess;
+use numbers::smaller;
+use numbers::u16_as_u64;
 use numbers::u8_as_u16;
+use numbers::u8_as_u64;
 use units::GREATEST_JITTER;
 use units::GREATEST_LENGTH;
 use units::LEAST_LENGTH;
+use units::LINE_CAPACITY;
 ghost use mathlib.Core.Path.{_≡_};
 ghost use mathlib.Core.Bool.{true};
 ghost use mathlib.Core.Option.{none};
 ghost use Prim.Native.Nat.{ℕ, _≤_};
-ghost use Rattle.model.specs.Basics.{firstMet};
-ghost use Rattle.model.specs.Table.{countsInRange, fieldsInRange, linkChecks, linksChecks, sizeChecks};
+ghost use Rattle.model.specs.Basics.{provided, firstMet};
+ghost use Rattle.model.specs.Link.{sumOver};
+ghost use Rattle.model.specs.Table.{countsInRange, fieldsInRange, linkChecks, linksChecks, reservation, lineChecks, sizeChecks};
 ghost use Rattle.table.specs.View.{viewLink, viewLinks};
-ghost use Rattle.table.specs.Checks.{previousOf};
+ghost use Rattle.table.specs.Checks.{previousOf, onLineOrAny};
 
 pub fn counts_in_range(lines: u16, count: u16) -> bool
     ensures { λ r. ⌜ r ≡ countsInRange lines count ⌝ }
@@ -87,6 +93,52 @@ pub(crate) fn links_refusal(t: Table) -> u32
         }
         previous = number;
         i += 1;
+    }
+    0
+}
+
+// What a link reserves: its greatest length times 2^(7 − code), a code above 7 counting as 7.
+fn reservation_of(link: VirtualLink) -> u64
+    ensures { λ r. ⌜ ((n : ℕ) → r ≡ reservation (viewLink n link)) × (r ≤ 8388480) ⌝ }
+{
+    u16_as_u64(link.greatest) << excess(7, u8_as_u64(link.code))
+}
+
+fn counted(counts: bool, amount: u64) -> u64
+    ensures { λ r. ⌜ (r ≡ provided counts amount) × (r ≤ amount) ⌝ }
+{
+    if counts { amount } else { 0 }
+}
+
+// What the links on a line reserve; or those on any.
+fn reserved(t: Table, any: bool, line: u16) -> u64
+    ensures { λ r. ⌜ r ≡ sumOver (onLineOrAny any line) reservation (viewLinks t) ⌝ }
+{
+    let n = smaller(u16_as_u64(t.count), 256) as usize;
+    let mut sum: u64 = 0;
+    let mut i: usize = 0;
+    while i < n {
+        let link = t.links[i];
+        sum += counted(any | (u8_as_u16(link.line) == line), reservation_of(link));
+        i += 1;
+    }
+    sum
+}
+
+// 23 where a line is oversold. Where all links together reserve no more than a line carries, as in every table that has bounds,
+// no line is looked at by itself.
+pub fn lines_refusal(t: Table) -> u32
+    ensures { λ r. ⌜ r ≡ firstMet (lineChecks (t .lines) (viewLinks t)) ⌝ }
+{
+    if reserved(t, true, 0) <= LINE_CAPACITY {
+        return 0;
+    }
+    let mut line: u16 = 0;
+    while line < t.lines {
+        if LINE_CAPACITY < reserved(t, false, line) {
+            return 23;
+        }
+        line += 1;
     }
     0
 }

@@ -35,7 +35,7 @@ pub fn bag(code: u8) -> u64
     LEAST_BAG * (1 << k)
 }
 
-// 0, or the number of the first check from 3 to 6 that the table meets.
+// 0, or the number of the first check that the table meets: 3, then 4 and 5 of each link, 23, 6.
 pub fn check(t: Table) -> u32
     ensures { λ r. ⌜ r ≡ tableRefusal (viewTable t) ⌝ }
 {
@@ -45,6 +45,10 @@ pub fn check(t: Table) -> u32
     let refused = checks::links_refusal(t);
     if refused != 0 {
         return refused;
+    }
+    let oversold = checks::lines_refusal(t);
+    if oversold != 0 {
+        return oversold;
     }
     let sizes = t.sizes;
     checks::sizes_refusal(sizes)

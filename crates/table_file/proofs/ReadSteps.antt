@@ -8,7 +8,7 @@ use borrow.Author.Tests.{not-false}
 use lib.ListN.{length, getD, set, drop, replicate, length-append, length-map}
 use Rattle.model.specs.Basics.{entries, firstMet}
 use Rattle.model.specs.Link.{VirtualLink}
-use Rattle.model.specs.Table.{blankTable, countsInRange, countChecks}
+use Rattle.model.specs.Table.{Table, blankTable, countsInRange, countChecks, lineChecks}
 use Rattle.model.specs.TableFile.{numberAt, headerChecks, linkRead, sizesRead, Reading, stopOr, readSizes, readLinks, readTable, countRecordChecks, linkRecordChecks, sizesRecordChecks}
 use Rattle.model.proofs.Entries.{entries-blank, entries-next}
 use Rattle.model.proofs.Checks.{NoneMet, none-met, none-back}
@@ -18,10 +18,12 @@ use Rattle.table_record_reader.specs.declared.Record.{Record}
 use Rattle.table_record_reader.specs.declared.Record.the-variants.{Counts, Link, Sizes}
 use Rattle.table_file.specs.declared.Reading.{Reading as ReadingRecord}
 use Rattle.table.specs.Checks.{previousOf}
-use Rattle.table.specs.View.{viewLink, recordLink, blankFields, recordTable}
+use Rattle.table.specs.View.{viewLink, recordLink, blankFields, viewLinks, viewTable, recordTable}
 use Rattle.table_record_reader.specs.Records.{Said, saying, linkValues, said, saidOr, countsDue, linkDue, sizesDue, dueAt}
 use Rattle.table_file.specs.Answers.{recordReading}
+use Rattle.table_file.specs.Steps.{noTable}
 use Rattle.table.proofs.Refusals.{previous-more}
+use Rattle.table.proofs.Shown.{record-shown}
 use Rattle.table_record_reader.proofs.Due.{due-counts, due-link, due-sizes}
 
 -- ---- what an answer says of the checks
@@ -240,38 +242,55 @@ module _ {file : List ℕ} {lines count : ℕ} {numbers : List ℕ} {links : Lis
     sizes-met : ℕ
     sizes-met = firstMet (sizesRecordChecks rest)
 
+    abbrev sold-met : ℕ
+    sold-met = firstMet (lineChecks lines (s .found))
+
     table-read : Reading
     table-read = record { refused = 0; table = record { lines = lines; links = s .found; sizes = sizesRead rest } }
 
     all-found : length (s .found) ≡ count
     all-found = omega (arith, s .before, s .within)
 
-    sizes-step : readTable file ≡ stopOr sizes-met table-read
+    -- the links that were read are those of the record that holds them
+    pub found-shown : (sizes : List ℕ) → viewLinks (record { lines = lines; count = count; numbers = numbers; links = links; sizes = sizes }) ≡ s .found
+    unfolding viewTable recordTable
+    found-shown sizes =
+        let shown : viewLinks (recordTable (record { lines = lines; links = s .found; sizes = sizes })) ≡ s .found =
+        ap (λ (t : Table). t .links) (record-shown (record { lines = lines; links = s .found; sizes = sizes }) (omega (arith, all-found, s .few))) in
+        rw (← all-found, s .numbered, s .filled) shown
+
+    lines-step : readTable file ≡ stopOr sold-met (stopOr sizes-met table-read)
     unfolding readLinks readSizes sizes-met table-read sizesRecordChecks
-    sizes-step = let k : count - length (s .found) ≡ 0 = omega (arith, all-found) in s .left ∙ rw k refl
+    lines-step = let k : count - length (s .found) ≡ 0 = omega (arith, all-found) in s .left ∙ rw k refl
+
+    pub sold-stop : (o : ℕ) → o ≡ firstMet (lineChecks lines (s .found)) → (o ≡ 0 → ⊥) → noTable o ≡ recordReading (readTable file)
+    sold-stop o q z = ap recordReading (sym (lines-step ∙ rw (← q) (stop-is o (stopOr sizes-met table-read) z)))
 
     said-sizes : said x ≡ saidOr sizes-met (saying 3 (sizesRead rest))
     unfolding sizesDue sizes-met sizesRecordChecks
     said-sizes = e ∙ due-sizes rest read count lines previous not-first h
 
-    pub sizes-stop : (m : ℕ) (a : ReadingRecord) → (said x .kind ≡ 3 → ⊥) → m ≡ said x .refused → a ≡ record { refused = m; table = recordTable blankTable } →
-        a ≡ recordReading (readTable file)
-    sizes-stop m a o p f = stopped (readTable file) sizes-met m table-read (said x) (saying 3 (sizesRead rest)) a sizes-step said-sizes o p f
+    module _ (none-sold : firstMet (lineChecks lines (s .found)) ≡ 0) where
+      sizes-step : readTable file ≡ stopOr sizes-met table-read
+      sizes-step = lines-step ∙ go-is sold-met (stopOr sizes-met table-read) none-sold
 
-    module _ (a b c d f g i j : ℕ) (q : x ≡ Sizes a b c d f g i j) where
-      kind-three : said x .kind ≡ 0 → ⊥
-      unfolding said
-      kind-three k = let z : _≡_ {A = ℕ} 3 0 = sym (ap (λ (y : Record). said y .kind) q) ∙ k in omega arith
+      pub sizes-stop : (m : ℕ) (a : ReadingRecord) → (said x .kind ≡ 3 → ⊥) → m ≡ said x .refused → a ≡ noTable m → a ≡ recordReading (readTable file)
+      sizes-stop m a o p f = stopped (readTable file) sizes-met m table-read (said x) (saying 3 (sizesRead rest)) a sizes-step said-sizes o p f
 
-      sizes-parts : (sizes-met ≡ 0) × (said x ≡ saying 3 (sizesRead rest))
-      sizes-parts = said-goes (said x) (saying 3 (sizesRead rest)) sizes-met said-sizes kind-three
+      module _ (a b c d f g i j : ℕ) (q : x ≡ Sizes a b c d f g i j) where
+        kind-three : said x .kind ≡ 0 → ⊥
+        unfolding said
+        kind-three k = let z : _≡_ {A = ℕ} 3 0 = sym (ap (λ (y : Record). said y .kind) q) ∙ k in omega arith
 
-      sizes-same : a ∷ b ∷ c ∷ d ∷ f ∷ g ∷ i ∷ j ∷ [] ≡ sizesRead rest
-      unfolding said
-      sizes-same = ap (λ (u : Said). u .values) (sym (ap said q) ∙ sizes-parts .1)
+        sizes-parts : (sizes-met ≡ 0) × (said x ≡ saying 3 (sizesRead rest))
+        sizes-parts = said-goes (said x) (saying 3 (sizesRead rest)) sizes-met said-sizes kind-three
 
-      pub read-whole : _≡_ {A = ReadingRecord}
-          (record { refused = 0; table = record { lines = lines; count = count; numbers = numbers; links = links; sizes = a ∷ b ∷ c ∷ d ∷ f ∷ g ∷ i ∷ j ∷ [] } })
-          (recordReading (readTable file))
-      unfolding recordTable table-read
-      read-whole = rw (sizes-step ∙ go-is sizes-met table-read (sizes-parts .0), sizes-same, all-found, s .numbered, s .filled)
+        sizes-same : a ∷ b ∷ c ∷ d ∷ f ∷ g ∷ i ∷ j ∷ [] ≡ sizesRead rest
+        unfolding said
+        sizes-same = ap (λ (u : Said). u .values) (sym (ap said q) ∙ sizes-parts .1)
+
+        pub read-whole : _≡_ {A = ReadingRecord}
+            (record { refused = 0; table = record { lines = lines; count = count; numbers = numbers; links = links; sizes = a ∷ b ∷ c ∷ d ∷ f ∷ g ∷ i ∷ j ∷ [] } })
+            (recordReading (readTable file))
+        unfolding recordTable table-read
+        read-whole = rw (sizes-step ∙ go-is sizes-met table-read (sizes-parts .0), sizes-same, all-found, s .numbered, s .filled)

@@ -3,10 +3,13 @@ use mathlib.Core.Path.{_≡_, refl, sym, ap, _∙_, subst}
 use mathlib.Core.Bool.{Bool, true, false}
 use mathlib.Core.List.{List}
 use Prim.Native.Nat.{ℕ, zero, suc, _+_, _-_, _≤_, _<_, _^_}
+use native.Mathlib.Decide.{ℕ-discrete}
 use native.Mathlib.Omega.{arith}
 use lib.Dec.{ltb}
 use borrow.Author.Tests.{ltb-true, ltb-false}
 use lib.ListN.{set, drop, replicate}
+use Rattle.model.specs.Basics.{firstMet}
+use Rattle.model.specs.Table.{lineChecks}
 use Rattle.model.specs.TableFile.{readTable}
 use Rattle.table.specs.declared.VirtualLink.{VirtualLink as LinkFields}
 use Rattle.table_record_reader.specs.declared.Record.{Record}
@@ -16,9 +19,9 @@ use Rattle.table_file.specs.declared.steps.Step.{Step}
 use Rattle.table.specs.View.{blankFields}
 use Rattle.table_record_reader.specs.Records.{said, dueAt}
 use Rattle.table_file.specs.Answers.{recordReading}
-use Rattle.table_file.specs.Steps.{firstStep, stopStep, countsStep, linkStep, stepAfter, endedAfter}
-use Rattle.table_file.proofs.Taken.{step-counts, step-link, step-sizes}
-use Rattle.table_file.proofs.ReadSteps.{SoFar, counts-kind, counts-stop, counts-go, link-kind, link-stop, link-go, sizes-stop, read-whole}
+use Rattle.table_file.specs.Steps.{firstStep, stopStep, countsStep, linkStep, stepAfter, sizesAfter, linksHeld, soldOr, endedAfter}
+use Rattle.table_file.proofs.Taken.{step-counts, step-link, step-sizes, sold-is, unsold-is, ended-early, ended-late}
+use Rattle.table_file.proofs.ReadSteps.{SoFar, counts-kind, counts-stop, counts-go, link-kind, link-stop, link-go, found-shown, sold-stop, sizes-stop, read-whole}
 
 -- nothing read yet, or so far
 abbrev Held : List ℕ → List ℕ → ℕ → Step → List ℕ → List LinkFields → Type 0
@@ -51,7 +54,7 @@ module _ (file : List ℕ) (x : Record) (next : Step) (e : said x ≡ dueAt file
   first-stops (Link number v) q numbers links a z f = absurd (omega (arith, ap (λ (y : Record). said y .kind) q, counts-kind file x e (λ k. omega (arith, ap (λ (y : Record). said y .kind) q, k))))
   first-stops (Sizes b c d g h i j k) q numbers links a z f = absurd (omega (arith, ap (λ (y : Record). said y .kind) q, counts-kind file x e (λ k. omega (arith, ap (λ (y : Record). said y .kind) q, k))))
   first-stops (Refused n) q numbers links a z f =
-      counts-stop file x (next .refused) a e (λ k. omega (arith, ap (λ (y : Record). said y .kind) q, k)) (ap (λ (s : Step). s .refused) p ∙ ap (λ (y : Record). countsStep y firstStep .refused) q ∙ sym (ap (λ (y : Record). said y .refused) q)) (f ∙ ap (λ (y : Record). endedAfter y next numbers links) q)
+      counts-stop file x (next .refused) a e (λ k. omega (arith, ap (λ (y : Record). said y .kind) q, k)) (ap (λ (s : Step). s .refused) p ∙ ap (λ (y : Record). countsStep y firstStep .refused) q ∙ sym (ap (λ (y : Record). said y .refused) q)) (f ∙ ended-early next numbers links x (rw (p, q) (omega arith)))
 
   first-goes : (y : Record) → x ≡ y → (next .taken ≡ 0 → ⊥) → Gone 258 file file 0 next (replicate 256 0) (replicate 256 blankFields)
   unfolding countsStep
@@ -79,7 +82,7 @@ module _ (file rest : List ℕ) (read : ℕ) (step : Step) (numbers : List ℕ) 
     link-stops (Link number v) q a z f = absurd (omega (arith, ap (λ (s : Step). s .taken) p, ap (λ (y : Record). linkStep y read step .taken) q, z))
     link-stops (Sizes b c d g i j k l) q a z f = absurd (omega (arith, ap (λ (y : Record). said y .kind) q, link-kind s x e h (λ k. omega (arith, ap (λ (y : Record). said y .kind) q, k))))
     link-stops (Refused n) q a z f =
-        link-stop s x e h (next .refused) a (λ k. omega (arith, ap (λ (y : Record). said y .kind) q, k)) (ap (λ (s : Step). s .refused) p ∙ ap (λ (y : Record). linkStep y read step .refused) q ∙ sym (ap (λ (y : Record). said y .refused) q)) (f ∙ ap (λ (y : Record). endedAfter y next numbers links) q)
+        link-stop s x e h (next .refused) a (λ k. omega (arith, ap (λ (y : Record). said y .kind) q, k)) (ap (λ (s : Step). s .refused) p ∙ ap (λ (y : Record). linkStep y read step .refused) q ∙ sym (ap (λ (y : Record). said y .refused) q)) (f ∙ ended-early next numbers links x (rw (p, q) h))
 
     link-goes : (left : ℕ) → left + read ≡ 258 → (y : Record) → x ≡ y → (next .taken ≡ 0 → ⊥) → Gone left file rest read next numbers links
     unfolding linkStep
@@ -97,20 +100,32 @@ module _ (file rest : List ℕ) (read : ℕ) (step : Step) (numbers : List ℕ) 
     link-goes left t (Sizes b c d g i j k l) q z = absurd (z (ap (λ (u : Step). u .taken) p ∙ ap (λ (y : Record). linkStep y read step .taken) q))
     link-goes left t (Refused n) q z = absurd (z (ap (λ (u : Step). u .taken) p ∙ ap (λ (y : Record). linkStep y read step .taken) q))
 
-  sizes-stops : step .count < read → next ≡ stopStep (said x .refused) step → (y : Record) → x ≡ y → (a : ReadingRecord) → a ≡ endedAfter x next numbers links → a ≡ recordReading (readTable file)
-  unfolding endedAfter said
-  sizes-stops h p (Sizes b c d g i j k l) q a f =
-      f ∙ ap (λ (u : Step). endedAfter x u numbers links) p ∙ ap (λ (y : Record). endedAfter y (stopStep (said x .refused) step) numbers links) q ∙ read-whole s x e h b c d g i j k l q
-  sizes-stops h p (Counts lines n) q a f =
-      sizes-stop s x e h (next .refused) a (λ k. omega (arith, ap (λ (y : Record). said y .kind) q, k)) (ap (λ (u : Step). u .refused) p) (f ∙ ap (λ (y : Record). endedAfter y next numbers links) q)
-  sizes-stops h p (Link number v) q a f =
-      sizes-stop s x e h (next .refused) a (λ k. omega (arith, ap (λ (y : Record). said y .kind) q, k)) (ap (λ (u : Step). u .refused) p) (f ∙ ap (λ (y : Record). endedAfter y next numbers links) q)
-  sizes-stops h p (Refused n) q a f =
-      sizes-stop s x e h (next .refused) a (λ k. omega (arith, ap (λ (y : Record). said y .kind) q, k)) (ap (λ (u : Step). u .refused) p) (f ∙ ap (λ (y : Record). endedAfter y next numbers links) q)
+  module _ (h : step .count < read) (p : next ≡ stopStep (said x .refused) read step) where
+    -- the links that the step holds are those found
+    sold-is-met : firstMet (lineChecks (next .lines) (linksHeld next numbers links)) ≡ firstMet (lineChecks (step .lines) (s .found))
+    sold-is-met = rw p (ap (λ l. firstMet (lineChecks (step .lines) l)) (found-shown s x e h (replicate 8 0)))
+
+    none-sold : firstMet (lineChecks (step .lines) (s .found)) ≡ 0 → (y : Record) → x ≡ y → (a : ReadingRecord) → a ≡ sizesAfter x next numbers links → a ≡ recordReading (readTable file)
+    unfolding sizesAfter said
+    none-sold z (Sizes b c d g i j k l) q a f =
+        f ∙ ap (λ (u : Step). sizesAfter x u numbers links) p ∙ ap (λ (y : Record). sizesAfter y (stopStep (said x .refused) read step) numbers links) q ∙ read-whole s x e h z b c d g i j k l q
+    none-sold z (Counts lines n) q a f =
+        sizes-stop s x e h z (next .refused) a (λ k. omega (arith, ap (λ (y : Record). said y .kind) q, k)) (ap (λ (u : Step). u .refused) p) (f ∙ ap (λ (y : Record). sizesAfter y next numbers links) q)
+    none-sold z (Link number v) q a f =
+        sizes-stop s x e h z (next .refused) a (λ k. omega (arith, ap (λ (y : Record). said y .kind) q, k)) (ap (λ (u : Step). u .refused) p) (f ∙ ap (λ (y : Record). sizesAfter y next numbers links) q)
+    none-sold z (Refused n) q a f =
+        sizes-stop s x e h z (next .refused) a (λ k. omega (arith, ap (λ (y : Record). said y .kind) q, k)) (ap (λ (u : Step). u .refused) p) (f ∙ ap (λ (y : Record). sizesAfter y next numbers links) q)
+
+    sizes-stops : (a : ReadingRecord) → a ≡ endedAfter x next numbers links → a ≡ recordReading (readTable file)
+    sizes-stops a f = go (ℕ-discrete (firstMet (lineChecks (step .lines) (s .found))) 0) (f ∙ ended-late next numbers links x (rw p h) ∙ rw sold-is-met)
+      where
+        go : Dec (firstMet (lineChecks (step .lines) (s .found)) ≡ 0) → a ≡ soldOr (firstMet (lineChecks (step .lines) (s .found))) (sizesAfter x next numbers links) → a ≡ recordReading (readTable file)
+        go (yes z) g = none-sold z x refl a (g ∙ unsold-is _ (sizesAfter x next numbers links) z)
+        go (no z) g = g ∙ sold-is _ (sizesAfter x next numbers links) z ∙ sold-stop s x e h _ refl z
 
   module _ (z : read ≡ 0 → ⊥) (p : next ≡ stepAfter x read step) where
     later-stops : (b : Bool) → ltb (step .count) read ≡ b → (a : ReadingRecord) → next .taken ≡ 0 → a ≡ endedAfter x next numbers links → a ≡ recordReading (readTable file)
-    later-stops true t a n f = let h = ltb-true (step .count) read t in sizes-stops h (p ∙ step-sizes x read step z h) x refl a f
+    later-stops true t a n f = let h = ltb-true (step .count) read t in sizes-stops h (p ∙ step-sizes x read step z h) a f
     later-stops false t a n f = let h = ltb-false (step .count) read t in link-stops h (p ∙ step-link x read step z h) x refl a n f
 
     later-goes : (b : Bool) → ltb (step .count) read ≡ b → (left : ℕ) → left + read ≡ 258 → (next .taken ≡ 0 → ⊥) → Gone left file rest read next numbers links

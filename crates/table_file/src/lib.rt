@@ -33,7 +33,7 @@ fn refused(number: u32) -> Reading
 }
 
 // The table of a file, record by record; entries behind its count are blank.
-// A refusal, 1 to 7, stands beside the blank table.
+// A refusal, 1 to 7 or 23, stands beside the blank table.
 pub fn read(file: &[u8]) -> Reading
     ensures { λ r. ⌜ r ≡ recordReading (readTable (now (file .entry))) ⌝ }
 {
@@ -41,7 +41,7 @@ pub fn read(file: &[u8]) -> Reading
 }
 
 // Writes the file of a table into the lent output, and answers its length; bytes behind it stay.
-// A refusal, 3 to 6 or 9, writes to no byte.
+// A refusal, 3 to 6, 23 or 9, writes to no byte.
 pub fn write(t: Table, out: &mut [u8]) -> Writing
     ensures { λ r. ⌜ Wrote (viewTable t) (now (out .entry)) (now (out .exit)) r ⌝ }
 {

@@ -7,7 +7,7 @@ ghost use mathlib.Core.Path.{_≡_};
 ghost use Rattle.table_file.specs.Steps.{firstStep, stopStep, stepAfter, endedAfter};
 
 // The refusal, 0 if none; the bytes that the record took, 0 where the reader stops; the counts;
-// the link with its number and its place.
+// the link with its number and its place, which is the number of records read where the reader stops.
 pub(crate) struct Step {
     pub(crate) refused: u32,
     pub(crate) taken: usize,
@@ -32,8 +32,8 @@ pub(crate) fn first_step() -> Step
     }
 }
 
-fn stop(refused: u32, before: Step) -> Step
-    ensures { λ r. ⌜ r ≡ stopStep refused before ⌝ }
+fn stop(refused: u32, read: usize, before: Step) -> Step
+    ensures { λ r. ⌜ r ≡ stopStep refused read before ⌝ }
 {
     let link = before.link;
     Step {
@@ -41,7 +41,7 @@ fn stop(refused: u32, before: Step) -> Step
         taken: 0,
         count: before.count,
         lines: before.lines,
-        at: 0,
+        at: read,
         number: before.number,
         link,
     }
@@ -53,7 +53,7 @@ pub(crate) fn taken_in(next: Record, read: usize, before: Step) -> Step
 {
     if read == 0 {
         let Record::Counts(lines, count) = next else {
-            return stop(table_record_reader::refusal_of(next), before);
+            return stop(table_record_reader::refusal_of(next), read, before);
         };
         let link = before.link;
         return Step {
@@ -67,10 +67,10 @@ pub(crate) fn taken_in(next: Record, read: usize, before: Step) -> Step
         };
     }
     if numbers::u16_as_usize(before.count) < read {
-        return stop(table_record_reader::refusal_of(next), before);
+        return stop(table_record_reader::refusal_of(next), read, before);
     }
     let Record::Link(number, link) = next else {
-        return stop(table_record_reader::refusal_of(next), before);
+        return stop(table_record_reader::refusal_of(next), read, before);
     };
     Step {
         refused: 0,
@@ -83,7 +83,7 @@ pub(crate) fn taken_in(next: Record, read: usize, before: Step) -> Step
     }
 }
 
-// The reader's answer where it stops.
+// The reader's answer where it stops: with all links read, 23 comes before the refusals of the size record.
 pub(crate) fn ended(
     next: Record,
     step: Step,
@@ -92,16 +92,23 @@ pub(crate) fn ended(
 ) -> Reading
     ensures { λ r. ⌜ r ≡ endedAfter next step numbers links ⌝ }
 {
-    let Record::Sizes(a, b, c, d, e, f, g, h) = next else {
+    if step.at <= numbers::u16_as_usize(step.count) {
         return crate::refused(step.refused);
-    };
-    let sizes = [a, b, c, d, e, f, g, h];
-    let table = Table {
+    }
+    let mut table = Table {
         lines: step.lines,
         count: step.count,
         numbers,
         links,
-        sizes,
+        sizes: [0u32; 8],
     };
+    let oversold = table::checks::lines_refusal(table);
+    if oversold != 0 {
+        return crate::refused(oversold);
+    }
+    let Record::Sizes(a, b, c, d, e, f, g, h) = next else {
+        return crate::refused(step.refused);
+    };
+    table.sizes = [a, b, c, d, e, f, g, h];
     Reading { refused: 0, table }
 }

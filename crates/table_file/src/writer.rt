@@ -1,4 +1,4 @@
-// The writer: the refusals, 3 to 6 and 9, then the three kinds of record.
+// The writer: the refusals of the table, then 9, then the three kinds of record.
 use crate::Writing;
 use table::Table;
 ghost use Rattle.table.specs.View.{viewTable};

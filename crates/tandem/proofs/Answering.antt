@@ -13,13 +13,14 @@ use Rattle.bounds.proofs.Answered.{sizing-refused, Answers, sized}
 use Rattle.tandem.specs.declared.Next.{Next as NextRecord}
 use Rattle.tandem.specs.Answer.{recordNext}
 use Rattle.tandem.specs.Rows.{Ready, rowsOf}
+use Rattle.tandem.proofs.Given.{next-stops}
 
 -- the first of two refusals, where there is one
 stops : (t : Table) (line lines n later : ℕ) → (n ≡ 0 → ⊥)
     → _≡_ {A = NextRecord} (record { refused = n; table = recordTable blankTable }) (recordNext (nextOr (firstRefusal n later) t line lines))
-unfolding firstRefusal nextOr
+unfolding firstRefusal
 stops t line lines zero later z = absurd (z refl)
-stops t line lines (suc n) later z = refl
+stops t line lines (suc n) later z = rw (next-stops t line lines (suc n) z)
 
 module _ (t : TableRecord) (line lines number : ℕ) (e : number ≡ lineRefusal line lines) where
   pub line-refused : (number ≡ 0 → ⊥) → (r : NextRecord) → r ≡ record { refused = number; table = recordTable blankTable } → r ≡ recordNext (next (viewTable t) line lines)

@@ -11,9 +11,9 @@ use lib.ListN.{length, getD, take, set, replicate, length-map}
 use lib.Seq.{take-all}
 use Rattle.model.specs.Basics.{entries, firstMet}
 use Rattle.model.specs.Link.{VirtualLink, blankLink, linkAt}
-use Rattle.model.specs.Table.{blankTable, tableRefusal}
+use Rattle.model.specs.Table.{Table, blankTable, lineChecks, tableRefusal}
 use Rattle.model.specs.Bounds.{hold}
-use Rattle.model.specs.NextTable.{nextLink, nextLinks, jittersInRange, nextOr}
+use Rattle.model.specs.NextTable.{nextLink, nextLinks, nextTable, jittersInRange, rowsRefusal, nextOr}
 use Rattle.model.proofs.Entries.{entries-blank, took-more}
 use Rattle.model.proofs.TableFacts.{FieldsFit}
 use Rattle.model.proofs.Holds.{has-bounds}
@@ -22,10 +22,11 @@ use Rattle.table.specs.declared.VirtualLink.{VirtualLink as LinkFields}
 use Rattle.table.specs.declared.Table.{Table as TableRecord}
 use Rattle.table.specs.View.{viewLink, recordLink, blankFields, viewLinks, viewTable, recordTable}
 use Rattle.table.proofs.Shape.{count-shown}
+use Rattle.table.proofs.Shown.{record-shown}
 use Rattle.table.proofs.PassingRecord.{counts-pass, entry-is, entry-fits}
 use Rattle.tandem.specs.declared.Next.{Next as NextRecord}
 use Rattle.tandem.specs.Rows.{movedLink, Ready, rowsOf}
-use Rattle.tandem.proofs.Given.{row-at}
+use Rattle.tandem.proofs.Given.{row-at, next-stops}
 
 -- ---- jitters in range
 jitters-more : (rows : List VirtualLink) (i : ℕ) → i < length rows
@@ -113,21 +114,41 @@ module _ (t : TableRecord) (holds : List ℕ) (ready : Ready t holds) (line : �
     unfolding nextLink
     row-number = rw row-is
 
-  module _ (lines : ℕ) (numbers : List ℕ) (links : List LinkFields) (late : Bool) (i : ℕ) (k : Filled rows numbers links late i) (e : i ≡ t .count) where
+  module _ (lines : ℕ) (numbers : List ℕ) (links : List LinkFields) (late : Bool) (i : ℕ) (k : Filled rows numbers links late i) (end : i ≡ t .count) where
     all : take i rows ≡ rows
     all = take-all i rows (omega (arith, rows-count))
 
     pub too-late : late ≡ true → (r : NextRecord) → r ≡ record { refused = 21; table = recordTable blankTable } → r ≡ rowsOf t line lines
-    unfolding firstMet nextOr
+    unfolding rowsRefusal firstMet nextOr
     too-late x r f =
         let past : not (jittersInRange rows) ≡ true = sym (rw all at (k .lateness)) ∙ x in
         f ∙ rw past
 
-    pub all-filled : late ≡ false
-        → _≡_ {A = NextRecord}
-        (record { refused = 0; table = record { lines = lines; count = t .count; numbers = numbers; links = links; sizes = replicate 8 0 } })
-        (rowsOf t line lines)
-    unfolding firstMet nextOr recordTable
-    all-filled x =
-        let small : not (jittersInRange rows) ≡ false = sym (rw all at (k .lateness)) ∙ x in
-        rw (small, rw all at (k .numbered), rw all at (k .filled), rows-count)
+    made : TableRecord
+    made = record { lines = lines; count = t .count; numbers = numbers; links = links; sizes = replicate 8 0 }
+
+    made-is : made ≡ recordTable (nextTable (viewTable t) line lines (replicate 8 0))
+    unfolding made recordTable
+    made-is = rw (rw all at (k .numbered), rw all at (k .filled), rows-count)
+
+    rows-shown : viewLinks made ≡ rows
+    unfolding viewTable
+    rows-shown =
+        ap viewLinks made-is ∙ ap (λ (u : Table). u .links) (record-shown (nextTable (viewTable t) line lines (replicate 8 0)) (omega (arith, rows-count, few)))
+
+    module _ (x : late ≡ false) (o : ℕ) (e : o ≡ firstMet (lineChecks lines (viewLinks (record { lines = lines; count = t .count; numbers = numbers; links = links; sizes = replicate 8 0 })))) where
+      refusal-is : rowsRefusal lines rows ≡ o
+      unfolding rowsRefusal firstMet made
+      refusal-is =
+          let small : not (jittersInRange rows) ≡ false = sym (rw all at (k .lateness)) ∙ x in
+          rw (small, e, rows-shown)
+
+      pub oversold : (o ≡ 0 → ⊥) → (r : NextRecord) → r ≡ record { refused = o; table = recordTable blankTable } → r ≡ rowsOf t line lines
+      oversold z r f = f ∙ rw (refusal-is, next-stops (viewTable t) line lines o z)
+
+      pub all-filled : o ≡ 0
+          → _≡_ {A = NextRecord}
+          (record { refused = 0; table = record { lines = lines; count = t .count; numbers = numbers; links = links; sizes = replicate 8 0 } })
+          (rowsOf t line lines)
+      unfolding nextOr made
+      all-filled z = rw (refusal-is, z, ← made-is)

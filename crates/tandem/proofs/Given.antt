@@ -5,7 +5,7 @@ use Prim.Native.Nat.{ℕ, zero, suc, _≤_, _<_}
 use native.Mathlib.Omega.{arith}
 use lib.ListN.{length, replicate}
 use Rattle.model.specs.Link.{VirtualLink, linkAt}
-use Rattle.model.specs.Table.{Table}
+use Rattle.model.specs.Table.{Table, blankTable}
 use Rattle.model.specs.NextTable.{nextLink, nextLinks, nextTable, nextRefusal, nextOr, next}
 use Rattle.table.specs.declared.Table.{Table as TableRecord}
 use Rattle.table.specs.View.{viewLinks, viewTable, recordTable}
@@ -17,6 +17,11 @@ row-at t line (v ∷ links) zero l = refl
 row-at t line (v ∷ links) (suc i) l = row-at t line links i (omega arith)
 
 module _ (t : Table) (line lines : ℕ) where
+  pub next-stops : (n : ℕ) → (n ≡ 0 → ⊥) → nextOr n t line lines ≡ record { refused = n; table = blankTable }
+  unfolding nextOr
+  next-stops zero z = absurd (z refl)
+  next-stops (suc n) z = refl
+
   pub next-refused : next t line lines .refused ≡ nextRefusal t line lines
   unfolding next nextOr
   next-refused = go (nextRefusal t line lines)

@@ -1,12 +1,10 @@
 -- The rows by themselves, once line and table have passed their checks.
 use mathlib.Core.Path.{_≡_}
-use mathlib.Core.Bool.{not}
-use mathlib.Core.List.{List, [], _∷_}
+use mathlib.Core.List.{List}
 use Prim.Native.Nat.{ℕ, _+_, _-_, _<_}
 use lib.ListN.{getD}
-use Rattle.model.specs.Basics.{check, firstMet}
 use Rattle.model.specs.Bounds.{boundsRefusal, hold}
-use Rattle.model.specs.NextTable.{nextLinks, jittersInRange, nextOr}
+use Rattle.model.specs.NextTable.{nextLinks, rowsRefusal, nextOr}
 use Rattle.table.specs.declared.VirtualLink.{VirtualLink as LinkFields}
 use Rattle.table.specs.declared.Table.{Table as TableRecord}
 use Rattle.table.specs.View.{viewTable}
@@ -23,6 +21,6 @@ pub record Ready (t : TableRecord) (holds : List ℕ) : Type 0 where
   pub passes : boundsRefusal (viewTable t) ≡ 0
   pub are-holds : (p : ℕ) → p < 8 → getD holds p 0 ≡ hold (viewTable t) p
 
--- 21, or the rows
+-- 21, 23, or the rows
 abbrev pub rowsOf : TableRecord → ℕ → ℕ → NextRecord
-rowsOf t line lines = recordNext (nextOr (firstMet (check 21 (not (jittersInRange (nextLinks (viewTable t) line))) ∷ [])) (viewTable t) line lines)
+rowsOf t line lines = recordNext (nextOr (rowsRefusal lines (nextLinks (viewTable t) line)) (viewTable t) line lines)

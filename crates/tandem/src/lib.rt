@@ -38,7 +38,7 @@ pub(crate) fn refused(number: u32) -> Next
 }
 
 // The table of the port that this one feeds by a chosen line of so many: each link on that line, its jitter larger by its
-// priority's hold less its least length. Or the refusal: 22, 3; 3 to 6 and 8 of the table; 21 where a jitter is too large.
+// priority's hold less its least length. Or the refusal: 22, 3; those of the table and 8; 21 where a jitter is too large, and 23.
 pub fn next_table(t: Table, line: u64, lines: u64) -> Next
     ensures { λ r. ⌜ r ≡ recordNext (next (viewTable t) line lines) ⌝ }
 {

@@ -38,7 +38,7 @@ fn next_link(v: VirtualLink, hold: u32, line: u8) -> VirtualLink
     }
 }
 
-// The rows of a table that has bounds, by its holds; or 21.
+// The rows of a table that has bounds, by its holds; or 21, or 23, which never comes (RowsCarried).
 pub(crate) fn next_rows(t: Table, holds: [u32; 8], line: u8, lines: u16) -> Next
     requires { ⌜ Ready t holds ⌝ }
     ensures { λ r. ⌜ r ≡ rowsOf t line lines ⌝ }
@@ -60,14 +60,16 @@ pub(crate) fn next_rows(t: Table, holds: [u32; 8], line: u8, lines: u16) -> Next
     if late {
         return crate::refused(21);
     }
-    Next {
-        refused: 0,
-        table: Table {
-            lines,
-            count: t.count,
-            numbers,
-            links,
-            sizes: [0u32; 8],
-        },
+    let table = Table {
+        lines,
+        count: t.count,
+        numbers,
+        links,
+        sizes: [0u32; 8],
+    };
+    let oversold = table::checks::lines_refusal(table);
+    if oversold != 0 {
+        return crate::refused(oversold);
     }
+    Next { refused: 0, table }
 }

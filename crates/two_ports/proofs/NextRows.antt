@@ -11,9 +11,9 @@ use lib.ListN.{length, length-map}
 use Rattle.model.specs.Basics.{allHold, check, firstRefusal}
 use Rattle.model.specs.Units.{greatestJitter}
 use Rattle.model.specs.Link.{VirtualLink}
-use Rattle.model.specs.Table.{Table, countsInRange, fieldsInRange, linkChecks, linksChecks, sizeChecks}
+use Rattle.model.specs.Table.{Table, countsInRange, fieldsInRange, linkChecks, linksChecks, lineChecks, sizeChecks}
 use Rattle.model.specs.Bounds.{boundsRefusal}
-use Rattle.model.specs.NextTable.{nextLink, nextLinks, nextTable, lineRefusal, jittersInRange, nextRefusal}
+use Rattle.model.specs.NextTable.{nextLink, nextLinks, nextTable, lineRefusal, jittersInRange, rowsRefusal, nextRefusal}
 use Rattle.two_ports.specs.Promises.{NextPasses, RowsAmong}
 use Rattle.model.proofs.Checks.{all-true, true-all, NoneMet, none-back, none-met}
 use Rattle.model.proofs.TableFacts.{CountsFit, parts-unmet, links-unmet}
@@ -61,16 +61,19 @@ unfolding countsInRange
 counts-next lines n a b c d = true-all (leb 1 lines ∷ leb lines 24 ∷ leb 1 n ∷ leb n 256 ∷ []) (a, (b, (le-leb 1 n c, (le-leb n 256 d, tt))))
 
 pub next-passes : NextPasses
-unfolding nextRefusal lineRefusal nextLinks
+unfolding nextRefusal rowsRefusal lineRefusal nextLinks
 next-passes t line lines sizes e z =
     let first = both-zero _ _ e in
     let second = both-zero _ _ (first .1) in
     let own = none-met (check 22 (leb lines line) ∷ check 3 (not (allHold (leb 1 lines ∷ leb lines 24 ∷ []))) ∷ []) (omega arith) (first .0) in
     let count = all-true _ (not-false _ (own .1 .0)) in
-    let jitters = not-false _ (none-met (check 21 (not (jittersInRange (map (nextLink t line) (t .links)))) ∷ []) (omega arith) (second .1) .0) in
+    let rows = map (nextLink t line) (t .links) in
+    let unmet = none-met (check 21 (not (jittersInRange rows)) ∷ lineChecks lines rows) (omega arith) (second .1) in
+    let jitters = not-false _ (unmet .0) in
     let passes = has-bounds t (second .0) .table in
     let c : CountsFit (t .lines) (length (t .links)) = is-passing t passes .counts in
     parts-unmet (nextTable t line lines sizes)
     (rw (length-map (t .links) (nextLink t line), counts-next lines (length (t .links)) (count .0) (count .1 .0) (c .some-link) (c .links-most)), tt)
     (links-next t line lines (leb-false lines line (own .0)) none (t .links) (links-unmet t passes) jitters)
+    (unmet .1)
     (none-met (sizeChecks sizes) (omega arith) z)

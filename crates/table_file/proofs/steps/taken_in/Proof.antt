@@ -1,6 +1,7 @@
 use borrow.Author.Needs.{needs}
-use mathlib.Core.Path.{sym, _∙_}
+use mathlib.Core.Path.{sym, ap, _∙_}
 use native.Mathlib.Omega.{arith}
+use Rattle.table_file.specs.Steps.{stopStep}
 use Rattle.table_file.proofs.Taken.{step-counts, step-link, step-sizes, counts-in, counts-else, link-in, link-else}
 use Rattle.table_file.proofs.steps.taken_in.Statement.{statement}
 use Rattle.table_file.proofs.steps.taken_in.Tie as tie
@@ -17,7 +18,7 @@ stop-requires c κs = search needs
 returns : tie.Need-returns
 returns c =
     let start = c .before .before .before .before .args in
-    c .stop .ensures ∙ sym (step-counts (start .next) (start .read) (start .before) (c .before .before .before .if1 .taken) ∙ counts-else (start .next) (c .before .refusal-of .result) (start .before) (c .before .before .match .keys2) (c .before .refusal-of .ensures))
+    c .stop .ensures ∙ ap (λ r. stopStep (c .before .refusal-of .result) r (start .before)) (c .before .before .before .if1 .taken) ∙ sym (step-counts (start .next) (start .read) (start .before) (c .before .before .before .if1 .taken) ∙ counts-else (start .next) (c .before .refusal-of .result) (start .before) (c .before .before .match .keys2) (c .before .refusal-of .ensures))
 
 returns-2 : tie.Need-returns-2
 returns-2 c =

@@ -3,7 +3,7 @@ use mathlib.Core.Path.{_≡_, refl}
 use native.Mathlib.Omega.{arith}
 use Rattle.model.specs.NextTable.{nextLinks}
 use Rattle.table.specs.View.{viewTable}
-use Rattle.tandem.proofs.Filling.{few, rows-count, fits, hold-small, row-made, row-number, too-late, Filled, filled-none, filled-more, all-filled}
+use Rattle.tandem.proofs.Filling.{few, rows-count, fits, hold-small, row-made, row-number, too-late, Filled, filled-none, filled-more, oversold, all-filled}
 use Prim.Native.Nat.{_-_, _≤_}
 use Rattle.tandem.proofs.rows.next_rows.Statement.{statement}
 use Rattle.tandem.proofs.rows.next_rows.Tie as tie
@@ -117,11 +117,23 @@ returns c =
     let o = c .before .before .before .loop in
     too-late (s .args .t1) (s .args .holds) (s .pre) (s .args .line) (s .args .lines) (o .numbers) (o .links) (o .late) (o .i) (o .inv .2) (omega arith) (c .before .if1 .taken) _ (c .refused .ensures)
 
+lines-refusal-requires : tie.Need-lines-refusal-requires Inv-loop μ-loop
+lines-refusal-requires c κs = search needs
+
+refused-requires-2 : tie.Need-refused-requires-2 Inv-loop μ-loop
+refused-requires-2 c κs = search needs
+
 returns-2 : tie.Need-returns-2 Inv-loop μ-loop
 returns-2 c =
-    let s = c .before .before .before .before in
-    let o = c .before .before .loop in
-    all-filled (s .args .t1) (s .args .holds) (s .pre) (s .args .line) (s .args .lines) (o .numbers) (o .links) (o .late) (o .i) (o .inv .2) (omega arith) (c .if1 .left)
+    let s = c .before .before .before .before .before .before .before in
+    let o = c .before .before .before .before .before .loop in
+    oversold (s .args .t1) (s .args .holds) (s .pre) (s .args .line) (s .args .lines) (o .numbers) (o .links) (o .late) (o .i) (o .inv .2) (omega arith) (c .before .before .before .if1 .left) _ (c .before .before .lines-refusal .ensures) (c .before .if2 .taken) _ (c .refused2 .ensures)
+
+returns-3 : tie.Need-returns-3 Inv-loop μ-loop
+returns-3 c =
+    let s = c .before .before .before .before .before .before in
+    let o = c .before .before .before .before .loop in
+    all-filled (s .args .t1) (s .args .holds) (s .pre) (s .args .line) (s .args .lines) (o .numbers) (o .links) (o .late) (o .i) (o .inv .2) (omega arith) (c .before .before .if1 .left) _ (c .before .lines-refusal .ensures) (c .if2 .left)
 
 pub next-rows-spec : {M : Type 1} → statement M
 next-rows-spec =
@@ -147,4 +159,7 @@ next-rows-spec =
     loop-again
     refused-requires
     returns
-    returns-2)
+    lines-refusal-requires
+    refused-requires-2
+    returns-2
+    returns-3)
