@@ -93,7 +93,7 @@ pub fn printed(file: &[u8], reports: &[u8]) -> String {
 #[cfg(test)]
 mod tests {
     use super::*;
-    use crate::examples::table_e;
+    use crate::examples::{table_e, table_full, table_over};
 
     /// What stands in a lent list before the call.
     const FOUND: u8 = 0xA5;
@@ -187,6 +187,9 @@ mod tests {
         assert_eq!(refused(&e(), &good[..119], 72), 19);
         assert_eq!(refused(&e()[1..], &good[..39], 72), 2);
         assert_eq!(refused(&e()[..79], &good[..39], 0), 1);
+        let over = table::bytes_of(&table_over());
+        assert_eq!([refused(&over, &good, 72), refused(&over, &good[..39], 0)], [23; 2]);
+        assert_eq!(refused(&table::bytes_of(&table_full()), &good[..39], 0), 19);
     }
 
     #[test]

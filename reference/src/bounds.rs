@@ -100,7 +100,7 @@ pub struct Bounds {
     pub windows: [u64; 8],
 }
 
-/// "bounds: 3 to 6, then no hold: 8." "If any of the eight has none, the table has no bounds (8)."
+/// "bounds: 3 to 6, then no hold: 8.", with 23 before 6. "If any of the eight has none, the table has no bounds (8)."
 pub fn holds(table: &Table) -> Result<[u64; 8], u32> {
     let refusal = check(table);
     if refusal != 0 {
@@ -126,8 +126,11 @@ pub fn bounds(table: &Table) -> Result<Bounds, u32> {
 #[cfg(test)]
 mod tests {
     use super::*;
+    use crate::cases::carried::spread;
     use crate::cases::make::table_of;
-    use crate::examples::{link, table_c, table_e};
+    use crate::examples::{link, nine_on, table_c, table_e, table_full, table_over, table_spread};
+    use crate::random::Random;
+    use crate::table::{is_oversold, promise, CARRIED};
 
     /// Bound, hold and window.
     fn three(lines: u16, links: &[Link], p: usize) -> (u64, u64, u64) {
@@ -224,6 +227,34 @@ mod tests {
         let mut overloaded = forty_three(941);
         overloaded.links[42].priority = 8;
         assert_eq!(bounds(&overloaded), Err(4));
+    }
+
+    #[test]
+    fn a_full_line_and_one_oversold() {
+        let full = table_full();
+        assert_eq!(three(full.lines, full.members(), 0), (3_075, 12_500, 1_557));
+        assert_eq!([table_over(), nine_on(1, 197)].map(|table| holds(&table)), [Err(23); 2]);
+        assert_eq!(bounds(&table_over()), Err(23));
+        assert_eq!(bounds(&table_spread()), Err(8));
+    }
+
+    /// Where each priority has a hold, all lines together are promised no more than one carries: 23 takes no bounds away.
+    #[test]
+    fn no_table_with_holds_is_oversold() {
+        let mut random = Random::new(2_024_106);
+        let (mut with_holds, mut without, mut oversold) = (0, 0, 0);
+        for _ in 0..400 {
+            let table = spread(&mut random);
+            let sum: u64 = table.members().iter().map(promise).sum();
+            oversold += u32::from(is_oversold(table.members(), table.lines));
+            if (0..8).all(|p| hold(&table, p).is_some()) {
+                assert!(sum <= CARRIED);
+                with_holds += 1;
+            } else {
+                without += 1;
+            }
+        }
+        assert!(with_holds >= 100 && without >= 100 && oversold >= 50, "{with_holds} {without} {oversold}");
     }
 
     #[test]

@@ -1,4 +1,4 @@
-//! Tables that the paper's marked examples name, and one whose bound takes 256 frames.
+//! Tables that the paper's marked examples name, one whose bound takes 256 frames, and those about what a line carries.
 
 use crate::cases::make::table_of;
 use crate::port::Arrival;
@@ -33,4 +33,35 @@ pub fn filled_c() -> Vec<(u64, Arrival)> {
     frames.extend((0..3).map(|k| (2_084 + 84 * k, Arrival { line: 23, number: 23, length: 84 })));
     frames.sort_by_key(|(tick, _)| *tick);
     frames
+}
+
+/// Two lines, and on one of them eight links of 1,538 and one of another length, priority 0: each 128 × L.
+pub fn nine_on(line: u8, last: u16) -> Table {
+    let mut links: Vec<Link> = (0..9).map(|number| link(number, line, 0, 1_538)).collect();
+    links[8].greatest = last;
+    table_of(2, &links, [3_075, 0, 0, 0, 0, 0, 0, 0])
+}
+
+/// FULL: line 0 is promised exactly 1,600,000.
+pub fn table_full() -> Table {
+    nine_on(0, 196)
+}
+
+/// OVER: a byte more in the last link.
+pub fn table_over() -> Table {
+    nine_on(0, 197)
+}
+
+/// SPREAD: FULL, and a link on the other line.
+pub fn table_spread() -> Table {
+    let full = table_full();
+    let one_more = Link { code: 7, ..link(9, 1, 0, 84) };
+    table_of(2, &[full.members(), &[one_more]].concat(), full.sizes)
+}
+
+/// So many links of 1,538, all of this code and on this line, the last of so many.
+pub fn alike(code: u8, many: u16, lines: u16) -> Table {
+    let line = lines as u8 - 1;
+    let links: Vec<Link> = (0..many).map(|number| Link { code, ..link(number, line, 0, 1_538) }).collect();
+    table_of(lines, &links, [0; 8])
 }

@@ -3,7 +3,7 @@
 use crate::bounds::{holds, Bounds};
 use crate::cases::make::table_of;
 use crate::port::{fresh, Answer, Arrival, Report, DROPPED, FILTERED, POLICED};
-use crate::table::{bytes_of, read, Link, Table};
+use crate::table::{bytes_of, is_oversold, read, Link, Table};
 
 /// "22, the chosen line is not below the new line count, checked first, and then 3 for a new line count outside 1
 /// to 24"
@@ -36,12 +36,17 @@ fn row(link: &Link, line: u64, holds: &[u64; 8]) -> Result<Link, u32> {
 }
 
 /// The table for the next port, with sizes 0: "The caller adds sizes afterwards." 22 and 3 come "before the table's own
-/// checks; 21 .. after 8".
+/// checks; 21 .. after 8"; 23 is among the table's own, and of the rows "in the chain, after 21".
 pub fn next(table: &Table, line: u64, lines: u64) -> Result<Table, u32> {
     check_line(line, lines)?;
     let holds = holds(table)?;
     let rows: Result<Vec<Link>, u32> = table.members().iter().map(|v| row(v, line, &holds)).collect();
-    Ok(table_of(lines as u16, &rows?, [0; 8]))
+    let rows = rows?;
+    // This never comes: a table with bounds promises at most 1,600,000 in all, and the rows promise the same.
+    if is_oversold(&rows, lines as u16) {
+        return Err(23);
+    }
+    Ok(table_of(lines as u16, &rows, [0; 8]))
 }
 
 /// From a table file to the next table's, with these sizes: the refusals of line and line count come first, those of the
@@ -148,8 +153,11 @@ impl<'a> Second<'a> {
 mod tests {
     use super::*;
     use crate::bounds::bounds;
-    use crate::examples::{link, table_e};
+    use crate::cases::carried::spread;
+    use crate::examples::{link, table_e, table_full, table_over, table_spread};
     use crate::port::STORED;
+    use crate::random::Random;
+    use crate::table::check;
 
     fn jitters(table: &Table) -> Result<Vec<u32>, u32> {
         next(table, 3, 5).map(|t| t.members().iter().map(|v| v.jitter).collect())
@@ -220,6 +228,44 @@ mod tests {
         assert_eq!(jitters(&table), Err(8));
         let alone = table_of(2, &[links[0], Link { jitter: 0, code: 7, ..links[1] }], [0; 8]);
         assert_eq!((holds(&alone).map(|holds| holds[0]), jitters(&alone)), (Ok(7_037), Err(21)));
+    }
+
+    /// 23 is among the table's own checks: after 22 and 3 of the line, after 3, 4 and 5, before 6 and 8.
+    #[test]
+    fn an_oversold_line() {
+        assert_eq!(next(&table_over(), 5, 5), Err(22));
+        assert_eq!(next(&table_over(), 24, 25), Err(3));
+        assert_eq!(jitters(&table_over()), Err(23));
+        assert_eq!(jitters(&Table { sizes: [16_385; 8], ..table_over() }), Err(23));
+        assert_eq!(jitters(&table_spread()), Err(8));
+        assert_eq!(jitters(&table_full()), Ok(vec![12_416; 9]));
+        let over = bytes_of(&table_over());
+        assert_eq!(next_file(&over, 5, 5, &[16_385; 8]), Err(22));
+        assert_eq!(next_file(&over, 24, 25, &[16_385; 8]), Err(3));
+        assert_eq!(next_file(&over, 3, 5, &[16_385; 8]), Err(23));
+        assert_eq!(printed(&over[..over.len() - 36], 3, 5, &[0; 8]), b"refused 23\n");
+    }
+
+    /// A refusal with 23 is always the table's own, and the rows pass every check.
+    #[test]
+    fn rows_are_never_oversold() {
+        let mut random = Random::new(2_024_107);
+        let (mut accepted, mut refused) = (0, 0);
+        for _ in 0..300 {
+            let table = spread(&mut random);
+            match next(&table, 0, 1) {
+                Ok(rows) => {
+                    assert_eq!(check(&rows), 0);
+                    accepted += 1;
+                }
+                Err(23) => {
+                    assert_eq!(check(&table), 23);
+                    refused += 1;
+                }
+                Err(_) => {}
+            }
+        }
+        assert!(accepted >= 80 && refused >= 40, "{accepted} {refused}");
     }
 
     #[test]

@@ -94,7 +94,7 @@ fn within_limits(link: &Link, length: u64) -> bool {
     u64::from(link.least) <= length && length <= u64::from(link.greatest)
 }
 
-/// "Fresh: clock, ticks and marks 0, queues empty, idle, credit B + J." "fresh port: 3 to 6".
+/// "Fresh: clock, ticks and marks 0, queues empty, idle, credit B + J." "fresh port: 3 to 6", with 23 before 6.
 pub fn fresh(table: &Table) -> Result<Port, u32> {
     let refusal = check(table);
     if refusal != 0 {
@@ -121,7 +121,8 @@ impl Port {
         self.queues.iter().map(|queue| queue.frames.len()).sum()
     }
 
-    /// "A port record is fit if its table passes 3 to 6; clock ≤ 2^48 − 1; .."
+    /// "A port record is fit if its table passes 3 to 6; clock ≤ 2^48 − 1; .." "a port with such a table is not fit": one that
+    /// meets 23.
     pub fn is_fit(&self) -> bool {
         check(&self.table) == 0
             && self.clock <= LAST_TICK
@@ -299,7 +300,7 @@ impl Port {
 mod tests {
     use super::*;
     use crate::cases::make::table_of;
-    use crate::examples::{filled_c, link, table_c, table_e};
+    use crate::examples::{filled_c, link, nine_on, table_c, table_e, table_full, table_over};
 
     struct Run {
         port: Port,
@@ -572,6 +573,29 @@ mod tests {
         assert!(!fit_after(|p| send(p, 0, 1_000, 1_100)));
         assert!(!fit_after(|p| send(p, 0, 600, 600)));
         assert!(!fit_after(|p| send(p, 0, 600, u64::MAX)));
+    }
+
+    #[test]
+    fn a_fresh_port_of_an_oversold_line() {
+        assert_eq!([table_over(), nine_on(1, 197)].map(|table| fresh(&table)), [Err(23), Err(23)]);
+        assert!(fresh(&table_full()).is_ok());
+    }
+
+    /// With a frame being sent and one behind it, all fit but for the last link's length.
+    #[test]
+    fn a_port_with_an_oversold_line() {
+        let mut run = Run::of(&table_full());
+        assert_eq!(run.verdict(1_538, 0, 0, 1_538), Ok(STORED));
+        assert_eq!(run.verdict(2_000, 0, 8, 196), Ok(STORED));
+        let mut port = run.port;
+        let mut list = [9; 6];
+        let wait = Report { tick: 2_000, frame: None };
+        assert_eq!(port.report(&wait, &mut list).map(|answer| answer.frames), Ok(0));
+        port.table = table_over();
+        let before = port.clone();
+        assert_eq!(port.report(&wait, &mut list), Err(10));
+        assert_eq!(port.report(&Report { tick: u64::MAX, frame: None }, &mut []), Err(10));
+        assert_eq!((port, list), (before, [9; 6]));
     }
 
     #[test]

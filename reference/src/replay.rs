@@ -75,7 +75,7 @@ pub fn replay(table: &[u8], reports: &[u8]) -> String {
 #[cfg(test)]
 mod tests {
     use super::*;
-    use crate::examples::table_e;
+    use crate::examples::{table_e, table_over};
 
     const END: &str = "2 0 0\n3 0 0\n4 0 0\n5 0 0\n6 0 0\n7 0 0\n";
 
@@ -106,5 +106,6 @@ mod tests {
         assert_eq!(replay(&table, &other), "refused 19\n");
         assert_eq!(replay(&table, &good[..39]), "refused 19\n");
         assert_eq!(replay(&table[1..], &good[..39]), "refused 2\n");
+        assert_eq!(replay(&table::bytes_of(&table_over()), &good[..39]), "refused 23\n");
     }
 }

@@ -39,7 +39,7 @@ fn line(table: &Table, found: &Bounds, p: usize) -> String {
 #[cfg(test)]
 mod tests {
     use super::*;
-    use crate::examples::table_e;
+    use crate::examples::{table_e, table_full, table_over, table_spread};
     use crate::table::bytes_of;
 
     #[test]
@@ -74,5 +74,8 @@ priority bound hold window size spare fill
         let mut long = bytes_of(&table_e());
         long.resize(9_000, 0);
         assert_eq!(sheet(&long), "refused 7\n");
+        assert_eq!(sheet(&bytes_of(&table_over())), "refused 23\n");
+        assert_eq!(sheet(&bytes_of(&table_spread())), "refused 8\n");
+        assert!(sheet(&bytes_of(&table_full())).contains("\n0 3075 12500 1557 3075 0 1000\n"));
     }
 }

@@ -66,7 +66,25 @@ fn is_above(number: u16, previous: Option<u16>) -> bool {
     }
 }
 
-/// The first of 3 to 6 that a table record meets, in the order of the file, or 0.
+/// The ticks of the longest BAG, and so the bytes that a line carries in one.
+pub const CARRIED: u64 = 1_600_000;
+
+/// "L × 2^(7 − code)": what a link is promised of that, L being its greatest length on the wire. The code is at most 7.
+pub fn promise(link: &Link) -> u64 {
+    u64::from(link.greatest) * 2_u64.pow(7 - u32::from(link.code))
+}
+
+/// "the sum over its links", those of this line.
+pub fn promised(links: &[Link], line: u16) -> u64 {
+    links.iter().filter(|link| u16::from(link.line) == line).map(promise).sum()
+}
+
+/// "A line promised more than it carries": one of so many lines whose sum "exceeds 1,600,000".
+pub fn is_oversold(links: &[Link], lines: u16) -> bool {
+    (0..lines).any(|line| promised(links, line) > CARRIED)
+}
+
+/// The first of 3, 4, 5, 23 and 6 that a table record meets, in the order of the file, or 0.
 pub fn check(table: &Table) -> u32 {
     if !counts_in_range(table.lines, table.count) {
         return 3;
@@ -80,6 +98,9 @@ pub fn check(table: &Table) -> u32 {
             return 5;
         }
         previous = Some(link.number);
+    }
+    if is_oversold(table.members(), table.lines) {
+        return 23;
     }
     if !sizes_in_range(&table.sizes) {
         return 6;
@@ -126,7 +147,8 @@ fn link_of(body: &[u8]) -> Link {
     }
 }
 
-/// The table of a file, or the first refusal of 1 to 7.
+/// The table of a file, or the first refusal of 1 to 7 and 23: "23, a line oversold, after the last virtual link's record and
+/// before any check of the size record".
 pub fn read(file: &[u8]) -> Result<Table, u32> {
     let (body, mut rest) = record(file, 1, 6)?;
     let mut table = Table {
@@ -152,6 +174,9 @@ pub fn read(file: &[u8]) -> Result<Table, u32> {
         table.links[i] = link;
         previous = Some(link.number);
         rest = behind;
+    }
+    if is_oversold(table.members(), table.lines) {
+        return Err(23);
     }
     let (body, rest) = record(rest, 3, 34)?;
     for p in 0..8 {
@@ -192,7 +217,7 @@ fn record_start(file: &mut Vec<u8>, length: u16, kind: u16) {
     file.extend(kind.to_le_bytes());
 }
 
-/// "writer: 3 to 6, then output below 44 + 18 × n: 9". "The writer's answer is the bytes written,
+/// "writer: 3 to 6, then output below 44 + 18 × n: 9", with 23 before 6. "The writer's answer is the bytes written,
 /// 44 + 18 × n; bytes after them stay."
 pub fn write(table: &Table, output: &mut [u8]) -> Result<usize, u32> {
     let refusal = check(table);
@@ -210,6 +235,7 @@ pub fn write(table: &Table, output: &mut [u8]) -> Result<usize, u32> {
 #[cfg(test)]
 mod tests {
     use super::*;
+    use crate::examples::{alike, nine_on, table_full, table_over, table_spread};
 
     fn link(number: u16) -> Link {
         Link { number, line: 0, priority: 0, code: 0, least: 84, greatest: 1_538, jitter: 0 }
@@ -337,5 +363,99 @@ mod tests {
         assert_eq!(longer[80..], [0xA5; 2]);
         let mut empty = [];
         assert_eq!(write(&with(|t| t.sizes[0] = 99_999), &mut empty), Err(6));
+    }
+
+    /// What a record meets, and the file of it.
+    fn both(table: &Table) -> [u32; 2] {
+        [check(table), read(&bytes_of(table)).err().unwrap_or(0)]
+    }
+
+    #[test]
+    fn what_a_line_carries() {
+        assert_eq!(promised(table_full().members(), 0), 1_600_000);
+        assert_eq!(promised(table_over().members(), 0), 1_600_128);
+        assert_eq!([table_full(), table_over()].map(|t| both(&t)), [[0; 2], [23; 2]]);
+        assert_eq!([nine_on(1, 196), nine_on(1, 197)].map(|t| both(&t)), [[0; 2], [23; 2]]);
+        assert_eq!(both(&table_spread()), [0; 2]);
+        for (code, most) in [(0, 8), (1, 16), (2, 32), (3, 65), (4, 130)] {
+            for lines in [1, 24] {
+                assert_eq!(both(&alike(code, most, lines)), [0; 2], "{code}");
+                assert_eq!(both(&alike(code, most + 1, lines)), [23; 2], "{code}");
+            }
+        }
+        assert_eq!([5, 7].map(|code| both(&alike(code, 256, 1))), [[0; 2]; 2]);
+    }
+
+    /// L is the greatest length, and entries behind the count promise nothing.
+    #[test]
+    fn what_is_summed() {
+        let with_last = |change: fn(&mut Table)| {
+            let mut table = table_over();
+            change(&mut table);
+            check(&table)
+        };
+        assert_eq!(with_last(|t| t.links[8].least = 197), 23);
+        assert_eq!(with_last(|t| t.links[8].code = 1), 0);
+        assert_eq!(with_last(|t| t.links[8].line = 1), 0);
+        assert_eq!(with_last(|t| t.count = 8), 0);
+        let mut full = table_full();
+        full.links[9] = full.links[0];
+        assert_eq!(check(&full), 0);
+    }
+
+    /// 23 stands between the links and the sizes, in a record and in a file.
+    #[test]
+    fn the_place_of_23() {
+        let sizes_at = 8 + 18 * 9;
+        for (table, refusals) in [(table_over(), [23; 6]), (table_full(), [1, 1, 1, 2, 6, 7])] {
+            let file = bytes_of(&table);
+            let with = |at: usize, byte: u8| {
+                let mut changed = file.clone();
+                changed[at] = byte;
+                changed
+            };
+            let files = [
+                file[..sizes_at].to_vec(),
+                file[..sizes_at + 3].to_vec(),
+                file[..file.len() - 1].to_vec(),
+                with(sizes_at + 2, 4),
+                bytes_of(&Table { sizes: [16_385; 8], ..table.clone() }),
+                [&file[..], &[0]].concat(),
+            ];
+            assert_eq!(files.map(|file| read(&file).err().unwrap_or(0)), refusals);
+        }
+        let large = |table: Table| check(&Table { sizes: [16_385; 8], ..table });
+        assert_eq!([large(table_full()), large(table_over())], [6, 23]);
+    }
+
+    /// A link behind the one that goes over: cut, of another kind, out of range, of a number that is there; and a good one.
+    #[test]
+    fn a_tenth_link() {
+        let mut ten = table_over();
+        ten.count = 10;
+        let with = |change: fn(&mut Link)| {
+            let mut table = ten.clone();
+            table.links[9] = Link { line: 1, ..link(9) };
+            change(&mut table.links[9]);
+            table
+        };
+        let file = bytes_of(&with(|_| ()));
+        let link_at = 8 + 18 * 9;
+        assert_eq!(read(&file[..link_at]), Err(1));
+        assert_eq!(read(&file[..link_at + 17]), Err(1));
+        assert_eq!(read(&[&file[..link_at], &[16, 0, 3, 0], &file[link_at + 4..]].concat()), Err(2));
+        assert_eq!(both(&with(|v| v.code = 8)), [4; 2]);
+        assert_eq!(both(&with(|v| v.number = 8)), [5; 2]);
+        assert_eq!(both(&with(|_| ())), [23; 2]);
+    }
+
+    #[test]
+    fn the_writer_and_23() {
+        for (table, short, long) in
+            [(table_over(), Err(23), Err(23)), (table_full(), Err(9), Ok(44 + 18 * 9))]
+        {
+            assert_eq!(write(&table, &mut [0; 43 + 18 * 9]), short);
+            assert_eq!(write(&table, &mut [0; 44 + 18 * 9]), long);
+        }
     }
 }

@@ -167,7 +167,7 @@ struct Tally {
     records: usize,
     reports: usize,
     /// Of calls, by number.
-    refused_calls: [usize; 21],
+    refused_calls: [usize; 24],
     /// Of reports, by number.
     refused: [usize; 17],
     verdicts: [usize; 4],
@@ -218,13 +218,14 @@ impl Tally {
 
     fn summary(&self) -> String {
         format!(
-            "files: {}; records: {}; answered: {}; refused 1 to 7, 19, 20: {:?}, {:?}; reports: {}; verdicts 0 to 3: {:?}; \
+            "files: {}; records: {}; answered: {}; refused 1 to 7, 23, 19, 20: {:?}, {}, {:?}; reports: {}; verdicts 0 to 3: {:?}; \
              frames freed: {}; refused 10 to 16: {:?}\n",
             self.files,
             self.records,
             self.answered,
             &self.refused_calls[1..8],
-            &self.refused_calls[19..],
+            self.refused_calls[23],
+            &self.refused_calls[19..21],
             self.reports,
             self.verdicts,
             self.freed,
@@ -241,7 +242,7 @@ mod tests {
     fn there_are_batches_of_each_kind() {
         let tally = tally(&batches::all());
         assert!(tally.answered >= 200);
-        assert!([1, 2, 3, 4, 5, 6, 7].iter().all(|n| tally.refused_calls[*n] >= 3));
+        assert!([1, 2, 3, 4, 5, 6, 7, 23].iter().all(|n| tally.refused_calls[*n] >= 3));
         assert!([19, 20].iter().all(|n| tally.refused_calls[*n] >= 20));
         assert!(tally.refused[10..].iter().all(|many| *many >= 40));
         assert!(tally.verdicts.iter().all(|many| *many >= 100));

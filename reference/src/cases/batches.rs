@@ -3,7 +3,7 @@
 use super::lists::{self, List};
 use super::{named_lists, port_records};
 use crate::batch::{bytes_of_numbers, on_file, whole_numbers};
-use crate::examples::table_e;
+use crate::examples::{table_e, table_over};
 use crate::port::LAST_TICK;
 use crate::random::Random;
 use crate::record::Record;
@@ -155,9 +155,11 @@ fn changed(at: usize, byte: u8) -> Vec<u8> {
     file
 }
 
-/// Files that are refused with 1 to 7, before reports that are none and lists that are too short.
+/// Files that are refused with 1 to 7 or 23, before reports that are none and lists that are too short.
 fn files() -> Vec<Batch> {
     let longer = [e(), vec![0]].concat();
+    let over = table::bytes_of(&table_over());
+    let over_and_cut = over[..over.len() - 36].to_vec();
     let files = [
         vec![],
         e()[..79].to_vec(),
@@ -174,6 +176,8 @@ fn files() -> Vec<Batch> {
         changed(50, 1),
         changed(78, 1),
         longer,
+        over,
+        over_and_cut,
     ];
     let mut batches = Vec::new();
     for file in files {

@@ -3,9 +3,9 @@
 //! Standard input is a run of cases: length (2 bytes, little-endian), and as many bytes of a table file.
 //! Standard output has the sheets, one after the other.
 
-use super::{make, Cases};
+use super::{carried, make, Cases};
 use crate::bounds::bounds;
-use crate::examples::{link, table_c, table_e};
+use crate::examples::{link, nine_on, table_c, table_e};
 use crate::random::Random;
 use crate::sheet::sheet;
 use crate::table::{bytes_of, Link, Table};
@@ -65,7 +65,22 @@ fn files() -> Vec<Vec<u8>> {
     files.push(long.clone());
     long.resize(5_000, 7);
     files.push(long);
+    files.extend(about_full(&mut random).iter().map(bytes_of));
     files
+}
+
+/// Lines that are full, or oversold, or full beside others; a tick of jitter, which takes FULL's bounds away.
+fn about_full(random: &mut Random) -> Vec<Table> {
+    let mut tables = carried::named();
+    tables.push(nine_on(0, 195));
+    for (p, jitter) in [(0, 1), (3, 0)] {
+        let mut table = nine_on(1, 196);
+        table.links[8] = Link { priority: p, jitter, ..table.links[8] };
+        tables.push(table);
+    }
+    tables.extend([0, 0, 1, 1, 128].map(|more| carried::filled(random, more)));
+    tables.extend((0..14).map(|_| carried::spread(random)));
+    tables
 }
 
 fn forty_three(last: u16) -> Table {
@@ -193,7 +208,7 @@ fn damaged(random: &mut Random, table: &Table, way: usize) -> Vec<u8> {
 
 pub fn cases() -> Cases {
     let mut cases = Cases { stdin: Vec::new(), stdout: Vec::new(), summary: String::new() };
-    let mut refused = [0; 9];
+    let mut refused = [0; 24];
     for file in files() {
         let text = sheet(&file);
         match text.strip_prefix("refused ") {
@@ -204,7 +219,12 @@ pub fn cases() -> Cases {
         cases.stdin.extend(file);
         cases.stdout.extend(text.as_bytes());
     }
-    cases.summary = format!("tables: {} with bounds; refused 1 to 8: {:?}\n", refused[0], &refused[1..]);
+    cases.summary = format!(
+        "tables: {} with bounds; refused 1 to 8: {:?}, 23: {}\n",
+        refused[0],
+        &refused[1..9],
+        refused[23]
+    );
     cases
 }
 

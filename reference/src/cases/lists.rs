@@ -88,6 +88,7 @@ fn table(random: &mut Random, i: usize) -> Table {
             jitter: random.from(0, jitter) as u32,
         });
     }
+    make::relieve(&mut links, lines);
     let mut table = make::table_of(lines, &links, [16_384; 8]);
     size_buffers(random, &mut table);
     table

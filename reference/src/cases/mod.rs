@@ -3,6 +3,7 @@
 pub mod batch;
 pub mod batches;
 pub mod bounds;
+pub mod carried;
 pub mod lists;
 pub mod make;
 pub mod named_lists;

@@ -1,8 +1,9 @@
-//! Lists of reports made by hand: table C filled to the last byte of its buffer, and frames at the last byte of a size.
+//! Lists of reports made by hand: table C filled to the last byte of its buffer, frames at the last byte of a size, and a line
+//! that is full.
 
 use super::lists::{Call, List};
 use super::make::table_of;
-use crate::examples::{filled_c, link, table_c, table_e};
+use crate::examples::{filled_c, link, table_c, table_e, table_full};
 use crate::port::{fresh, Arrival, Report};
 use crate::table::Table;
 
@@ -13,6 +14,7 @@ pub fn all() -> Vec<List> {
         lists.push(e_sized(sizes));
     }
     lists.push(brimful());
+    lists.push(full_line());
     lists
 }
 
@@ -93,6 +95,21 @@ fn brimful() -> List {
     list_of(table, &reports)
 }
 
+/// FULL for three of its BAGs: each link's longest frame, one behind the other with no tick between them.
+fn full_line() -> List {
+    let table = table_full();
+    let mut reports = Vec::new();
+    let mut tick = 0;
+    for _ in 0..3 {
+        for v in table.members() {
+            tick += u64::from(v.greatest);
+            reports.push(frame(tick, 0, v.number.into(), v.greatest.into()));
+        }
+    }
+    reports.push(wait(tick + 1_538));
+    list_of(table, &reports)
+}
+
 #[cfg(test)]
 mod tests {
     use super::*;
@@ -117,6 +134,12 @@ mod tests {
         assert_eq!(verdicts(&c_filled(16_384)), expected);
         expected[256] = DROPPED;
         assert_eq!(verdicts(&c_filled(16_383)), expected);
+    }
+
+    #[test]
+    fn all_of_a_full_line_are_stored() {
+        assert_eq!(verdicts(&full_line()), [STORED; 27]);
+        assert_eq!(full_line().calls[26].report.tick, 3 * 12_500);
     }
 
     #[test]

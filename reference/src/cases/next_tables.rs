@@ -1,9 +1,9 @@
 //! Tables with a chosen line and a line count: what the call for the next switch is tried on.
 
 use super::make::{self, table_of};
-use super::table_records;
+use super::{carried, table_records};
 use crate::bounds::holds;
-use crate::examples::{link, table_c, table_e};
+use crate::examples::{link, nine_on, table_c, table_e, table_over};
 use crate::random::Random;
 use crate::table::{check, Link, Table};
 
@@ -23,6 +23,7 @@ pub fn all() -> Vec<Asked> {
     calls.extend(overloaded());
     calls.extend(near_the_greatest_jitter(&mut random));
     calls.extend(any(&mut random));
+    calls.extend(about_full());
     for (i, call) in calls.iter_mut().enumerate() {
         if i % 2 == 1 {
             put_behind(&mut random, &mut call.table);
@@ -107,7 +108,7 @@ fn some_line(random: &mut Random) -> (u64, u64) {
     (line, lines)
 }
 
-/// Tables that fail their own checks, 3 to 6, some of each.
+/// Tables that fail 3 to 6 of their own checks, some of each.
 fn wrong(random: &mut Random) -> Vec<Asked> {
     let mut calls = Vec::new();
     for refusal in [3, 4, 5, 6] {
@@ -206,6 +207,36 @@ fn any(random: &mut Random) -> Vec<Asked> {
             *v = Link { code: 6, least: 84, greatest: 90, jitter: v.jitter % 50_000, ..*v };
         }
         calls.push(at(7, 24, table));
+    }
+    calls
+}
+
+/// Lines that are full or oversold: alone, with a chosen line or line count that is refused before, with a fault before 23 and
+/// behind it.
+fn about_full() -> Vec<Asked> {
+    let mut random = Random::new(2_024_023);
+    let over_and = |change: fn(&mut Table)| {
+        let mut table = table_over();
+        change(&mut table);
+        at(3, 5, table)
+    };
+    let mut calls: Vec<Asked> = carried::named().into_iter().map(|table| at(3, 5, table)).collect();
+    calls.extend([(0, 1), (5, 5), (24, 25), (23, 24)].map(|(line, lines)| at(line, lines, table_over())));
+    calls.extend([
+        over_and(|t| t.count = 257),
+        over_and(|t| t.links[8].code = 8),
+        over_and(|t| t.links[8].number = 7),
+        over_and(|t| t.sizes[7] = 16_385),
+        over_and(|t| t.links[0].jitter = 125_000),
+        at(0, 1, nine_on(1, 196)),
+    ]);
+    for more in [0, 1, 1, 1, 128, 60_000] {
+        let (line, lines) = some_line(&mut random);
+        calls.push(at(line, lines, carried::filled(&mut random, more)));
+    }
+    for _ in 0..8 {
+        let (line, lines) = some_line(&mut random);
+        calls.push(at(line, lines, carried::spread(&mut random)));
     }
     calls
 }

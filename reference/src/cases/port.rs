@@ -296,6 +296,7 @@ mod tests {
                 text.lines().filter(|line| line.starts_with(&format!("accepted {verdict} "))).count() >= 100
             );
         }
+        assert!(text.lines().filter(|line| line.starts_with("fresh 23 ")).count() >= 4);
         assert!(tally.dropped_in_wire_bytes >= 500 && tally.unfit_in_wire_bytes >= 5_000);
         assert!(lists::all().iter().all(|list| (20..=400).contains(&list.calls.len())));
     }

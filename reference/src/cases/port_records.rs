@@ -8,7 +8,7 @@
 
 use super::lists::Call;
 use super::make::table_of;
-use crate::examples::link;
+use crate::examples::{link, nine_on, table_full, table_over, table_spread};
 use crate::memory::occupied;
 use crate::port::{Account, Arrival, Report, LAST_TICK, MOST_FRAMES};
 use crate::record::{Entry, Record};
@@ -156,7 +156,7 @@ fn wild_behind(record: &mut Record) {
 /// tick; every other tick is the clock.
 fn full_of(clock: u64, frames: impl Fn(usize) -> (usize, u64)) -> Record {
     let one = |i: usize| Link {
-        code: (i % 8) as u8,
+        code: (i / 24 % 8) as u8,
         ..link(200 * i as u16, (i % 24) as u8, (i / 32) as u8, 1_538)
     };
     let links: Vec<Link> = (0..256).map(one).collect();
@@ -173,6 +173,31 @@ fn full_of(clock: u64, frames: impl Fn(usize) -> (usize, u64)) -> Record {
     record.line_ticks.fill(clock);
     record.accounts.iter_mut().for_each(|account| account.tick = clock);
     record
+}
+
+/// A port with nine links on this line, which is full if the last is of 196: link 0 is being sent, and two frames are behind it.
+fn of_nine(line: u8, last: u16) -> Record {
+    let mut record = Record::fresh(&nine_on(line, 196)).expect("a good table");
+    record.clock = CLOCK;
+    queue(&mut record, 0, &[frame(0, 1_538, 48_900), frame(7, 1_000, 49_900), frame(8, 84, CLOCK)]);
+    record.sender = Some((0, 48_900));
+    record.line_ticks[usize::from(line)] = CLOCK;
+    record.table.links[8].greatest = last;
+    record
+}
+
+/// The full port with another table.
+fn of_nine_and(change: impl Fn(&mut Table)) -> Record {
+    let mut record = of_nine(0, 196);
+    change(&mut record.table);
+    record
+}
+
+/// The ninth link has a byte less, and a tenth, of code 7, takes up to 128 in its place.
+fn tenth(table: &mut Table, greatest: u16) {
+    table.links[8].greatest = 195;
+    table.links[9] = Link { code: 7, ..link(9, 0, 0, greatest) };
+    table.count = 10;
 }
 
 /// Every tick is the clock, and the ticks of the clock end.
@@ -228,6 +253,9 @@ fn edges() -> Vec<Record> {
         }),
         full(),
         full_of_unlike(),
+        of_nine_and(|t| t.links[9] = link(9, 0, 0, 1_538)),
+        of_nine_and(|t| *t = table_spread()),
+        of_nine_and(|t| tenth(t, 128)),
     ]
 }
 
@@ -235,7 +263,7 @@ fn wrong_link(change: impl Fn(&mut Link)) -> Record {
     busy_with(|r| change(&mut r.table.links[3]))
 }
 
-/// "its table passes 3 to 6", not so.
+/// "its table passes 3 to 6", not so; or 23.
 fn wrong_tables() -> Vec<Record> {
     vec![
         busy_with(|r| r.table.lines = 0),
@@ -257,7 +285,19 @@ fn wrong_tables() -> Vec<Record> {
         wrong_link(|v| v.number = 7),
         busy_with(|r| r.table.sizes[0] = 16_385),
         busy_with(|r| r.table.sizes[7] = u32::MAX),
+        of_nine(0, 197),
+        of_nine(1, 197),
+        of_nine_and(|t| *t = Table { sizes: [16_385; 8], ..table_over() }),
+        of_nine_and(|t| *t = number_and_line()),
+        of_nine_and(|t| tenth(t, 129)),
     ]
+}
+
+/// OVER with a number that is there already.
+fn number_and_line() -> Table {
+    let mut table = table_over();
+    table.links[8].number = 7;
+    table
 }
 
 /// Queues that are not fit: their counts and frames.
@@ -451,6 +491,8 @@ pub fn tables() -> Vec<Table> {
     tables.push(busy_with(wild_behind).table);
     tables.push(full().table);
     tables.push(everything_wild().table);
+    tables.push(table_full());
+    tables.push(table_spread());
     tables
 }
 

@@ -66,8 +66,8 @@ pub fn cases() -> Cases {
 /// How many cases of files and records have each answer: of a file its refusal or 0, of a record what the writer answers.
 fn summary(stdout: &[u8]) -> String {
     let text = String::from_utf8_lossy(stdout);
-    let mut files = [0; 10];
-    let mut records = [0; 10];
+    let mut files = [0; 24];
+    let mut records = [0; 24];
     for line in text.lines() {
         let words: Vec<&str> = line.split(' ').collect();
         match words[..] {
@@ -79,12 +79,14 @@ fn summary(stdout: &[u8]) -> String {
         }
     }
     format!(
-        "files: {} good; refused 1 to 7: {:?}\nrecords: {} good; refused 3 to 6: {:?}, 9: {}\n",
+        "files: {} good; refused 1 to 7: {:?}, 23: {}\nrecords: {} good; refused 3 to 6: {:?}, 9: {}, 23: {}\n",
         files[0],
         &files[1..8],
+        files[23],
         records[0],
         &records[3..7],
-        records[9]
+        records[9],
+        records[23]
     )
 }
 
@@ -109,6 +111,8 @@ mod tests {
         for number in 1..=7 {
             assert!(text.lines().filter(|l| **l == format!("refused {number}")).count() >= 40);
         }
+        assert!(text.lines().filter(|l| *l == "refused 23").count() >= 40);
+        assert!(text.lines().filter(|l| l.starts_with("check 23 refused 23 ")).count() >= 20);
         for number in [3, 4, 5, 6, 9] {
             assert!(text.contains(&format!(" refused {number} ")));
         }

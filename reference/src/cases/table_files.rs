@@ -1,6 +1,7 @@
 //! Table files: good ones at every edge, and ones damaged in one to three places.
 
-use super::make;
+use super::{carried, make};
+use crate::examples::{link, table_full, table_over};
 use crate::random::Random;
 use crate::table::{bytes_of, Link, Table};
 
@@ -28,6 +29,8 @@ pub fn all() -> Vec<Vec<u8>> {
     files.extend(wrong_at_the_end(&mut random));
     files.extend(no_tables(&mut random));
     files.extend(random_damage(&mut random));
+    files.extend(lines_about_full(&mut random));
+    files.extend(oversold_and_more(&mut random));
     files
 }
 
@@ -374,4 +377,57 @@ fn swapped_links(file: Vec<u8>, i: usize, j: usize) -> Vec<u8> {
     let first = file[link_at(i)..link_at(i) + 18].to_vec();
     let second = file[link_at(j)..link_at(j) + 18].to_vec();
     put(&put(&file, link_at(i), &second), link_at(j), &first)
+}
+
+/// Lines that carry what they are promised, to the last byte, and lines that do not.
+fn lines_about_full(random: &mut Random) -> Vec<Vec<u8>> {
+    let mut tables = carried::named();
+    tables.extend(carried::of_1_538());
+    tables.extend([carried::all_full(196), carried::all_full(197)]);
+    for more in [0, 0, 0, 0, 0, 0, 1, 1, 1, 1, 2, 127, 128, 40_000, 1_600_000] {
+        tables.push(carried::filled(random, more));
+    }
+    tables.iter().map(bytes_of).collect()
+}
+
+/// FULL and OVER with a fault in the size record or behind it; OVER with a tenth link, which is good or is not; and oversold
+/// lines with faults anywhere.
+fn oversold_and_more(random: &mut Random) -> Vec<Vec<u8>> {
+    let mut files = Vec::new();
+    for table in [table_full(), table_over()] {
+        let file = bytes_of(&table);
+        let at = sizes_at(9);
+        files.extend([at, at + 1, at + 3, at + 4, file.len() - 1].map(|length| file[..length].to_vec()));
+        files.extend([put_two(&file, at, 35), put_two(&file, at + 2, 2)]);
+        files.extend([0, 7].map(|p| put_four(&file, at + 4 + 4 * p, 16_385)));
+        files.push([&file[..], &[0]].concat());
+    }
+    let nine = table_over();
+    let ten = make::table_of(2, &[nine.members(), &[link(9, 1, 0, 84)]].concat(), nine.sizes);
+    let file = bytes_of(&ten);
+    let at = link_at(9);
+    files.extend([at, at + 3, at + 17].map(|length| file[..length].to_vec()));
+    files.extend([put_two(&file, at, 17), put_two(&file, at + 2, 3), put_two(&file, at + 4, 8)]);
+    for (offset, bytes) in link_faults(2).into_iter().step_by(4) {
+        files.push(put(&file, at + offset, &bytes));
+    }
+    files.push(file);
+    for i in 0..40 {
+        let more = random.pick(&[1, 128, 60_000]);
+        let table = carried::filled(random, more);
+        let (file, many) = (bytes_of(&table), table.count.into());
+        files.push(if i % 2 == 0 { damaged_behind(random, file, many) } else { damaged(random, file, many) });
+    }
+    files
+}
+
+/// The size record cut, with another head or with a size out of range; or bytes behind it.
+fn damaged_behind(random: &mut Random, file: Vec<u8>, many: usize) -> Vec<u8> {
+    let at = sizes_at(many);
+    match random.from(0, 3) {
+        0 => file[..at + random.below(36)].to_vec(),
+        1 => put(&file, at + random.below(4), &[random.from(40, 255) as u8]),
+        2 => put_four(&file, at + 4 + 4 * random.below(8), 16_385),
+        _ => [file, vec![0; 18]].concat(),
+    }
 }

@@ -1,6 +1,7 @@
 //! Table records for the check and the writer, each with the length of its output.
 
-use super::make;
+use super::{carried, make};
+use crate::examples::{table_full, table_over};
 use crate::random::Random;
 use crate::table::{Link, Table};
 
@@ -40,6 +41,7 @@ pub fn all() -> Vec<Record> {
     records.extend(wrong_links(&mut random));
     records.extend(wrong_sizes(&mut random));
     records.extend(random_faults(&mut random));
+    records.extend(about_full(&mut random));
     records
 }
 
@@ -174,6 +176,47 @@ fn random_faults(random: &mut Random) -> Vec<Record> {
         }
         let output = (needed(&table) + random.from(0, 4) as usize).saturating_sub(2);
         records.push(Record { table, given: many + behind, output });
+    }
+    records
+}
+
+/// Lines about full, with outputs that are too short and not: alone, with one more fault, with links behind the count.
+fn about_full(random: &mut Random) -> Vec<Record> {
+    let mut records = Vec::new();
+    for table in carried::named() {
+        let exact = needed(&table);
+        for output in [0, exact - 1, exact, exact + 2] {
+            records.push(Record { table: table.clone(), given: table.count.into(), output });
+        }
+    }
+    for table in [table_full(), table_over()] {
+        let with = |change: &dyn Fn(&mut Table)| {
+            let mut table = table.clone();
+            change(&mut table);
+            Record { output: needed(&table), given: 10, table }
+        };
+        records.push(with(&|t| t.sizes[7] = 16_385));
+        records.push(with(&|t| t.links[8].number = 7));
+        records.push(with(&|t| t.links[0].code = 8));
+        records.push(with(&|t| t.lines = 25));
+        records.push(with(&|t| t.count = 8));
+        records.push(with(&|t| t.links[9] = t.links[0]));
+        records.push(with(&|t| t.links[8].least = t.links[8].greatest));
+    }
+    for more in [0, 0, 0, 1, 1, 128, 60_000] {
+        let table = carried::filled(random, more);
+        records.push(Record { given: table.count.into(), output: needed(&table), table });
+    }
+    for _ in 0..16 {
+        let mut table = carried::filled(random, 1);
+        let many = usize::from(table.count);
+        let place = random.below(many);
+        if random.once_in(3) {
+            table.sizes[place % 8] = 16_385;
+        } else {
+            spoil_link(random, &mut table, place);
+        }
+        records.push(Record { given: many, output: needed(&table), table });
     }
     records
 }

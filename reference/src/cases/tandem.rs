@@ -71,7 +71,7 @@ fn put_turn(stdin: &mut Vec<u8>, turn: &Turn) {
 #[derive(Default)]
 struct Tally {
     calls: usize,
-    refused: [usize; 23],
+    refused: [usize; 24],
     lists: usize,
     among_others: usize,
     departures: usize,
@@ -154,7 +154,7 @@ impl Tally {
 
     fn summary(&self) -> String {
         format!(
-            "calls: {}; accepted: {}; refused 3 to 6, 8, 21, 22: {:?}, {}, {}, {}; lists through two ports: {}, with further links {}; \
+            "calls: {}; accepted: {}; refused 3 to 6, 8, 21, 22, 23: {:?}, {}, {}, {}, {}; lists through two ports: {}, with further links {}; \
              departures reported: {}; verdicts 0 to 3: {:?}; refused 16: {}; lists with a departure policed for too small a jitter: {}\n",
             self.calls,
             self.refused[0],
@@ -162,6 +162,7 @@ impl Tally {
             self.refused[8],
             self.refused[21],
             self.refused[22],
+            self.refused[23],
             self.lists,
             self.among_others,
             self.departures,
@@ -192,7 +193,7 @@ mod tests {
     fn there_are_cases_of_each_kind() {
         let Maker { stdin, stdout, tally } = made();
         assert!(tally.calls >= 300 && tally.refused[0] >= 90);
-        assert!([3, 4, 5, 6, 8, 21, 22].iter().all(|n| tally.refused[*n] >= 10));
+        assert!([3, 4, 5, 6, 8, 21, 22, 23].iter().all(|n| tally.refused[*n] >= 10));
         assert!(tally.lists >= 220 && tally.among_others >= 100 && tally.departures >= 1_500);
         assert!(tally.verdicts[0] >= 1_000 && tally.verdicts[1] == 0 && tally.verdicts[3] >= 100);
         assert!(tally.refused_reports[16] >= 50 && tally.policed_with_less >= 20);
