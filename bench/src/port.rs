@@ -2,7 +2,7 @@
 //! before it. The product, in a program of its own that makes four reports in a row, over and over, beside a plain Rust
 //! port that is lent and not copied.
 
-use crate::tables::{file_of, Table, UNKEPT};
+use crate::tables::{carried, file_of, promise, Table, UNKEPT};
 use crate::traffic;
 use std::hint::black_box;
 use std::io::Write;
@@ -63,11 +63,18 @@ impl Port {
         let count = usize::from(self.table.count);
         let links = &self.table.links[..count];
         let rising = links.windows(2).all(|w| w[0].number < w[1].number);
-        let ranges = links.iter().all(|v| v.line < 24 && v.priority < 8 && v.code < 8 && v.least <= v.greatest);
+        let mut promised = [0; 24];
+        let ranges = links.iter().all(|v| {
+            let good = v.line < 24 && v.priority < 8 && v.code < 8 && v.least <= v.greatest;
+            if good {
+                promised[usize::from(v.line)] += promise(v);
+            }
+            good
+        });
         let queues = self.queues.iter().enumerate().all(|(p, q)| self.queue_fit(p, q));
         let lines = self.line_ticks.iter().all(|&t| t <= self.clock);
         let accounts = self.accounts[..count].iter().all(|a| a.0 <= 137_500 && a.1 <= self.clock);
-        rising && ranges && queues && lines && accounts
+        rising && ranges && carried(&promised) && queues && lines && accounts
     }
 
     fn queue_fit(&self, p: usize, q: &Queue) -> bool {

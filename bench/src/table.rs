@@ -48,10 +48,22 @@ fn file_of_256() -> Vec<u8> {
     file_of(&Table { lines: 24, count: 256, links, sizes: [16_384; 8] })
 }
 
+/// The file with line 0 oversold: each of its eleven links of 1,538 and code 0.
+fn oversold(file: &[u8]) -> Vec<u8> {
+    let mut changed = file.to_vec();
+    for at in (0..256).step_by(24).map(|i| 8 + 18 * i) {
+        changed[at + 8] = 0;
+        changed[at + 12..at + 14].copy_from_slice(&1_538u16.to_le_bytes());
+    }
+    changed
+}
+
 pub fn run() {
     let file = file_of_256();
     let (mut ours, mut theirs) = (vec![0xA5; 4_700], vec![0xA5; 4_700]);
     assert_eq!(product_refusal(&file), 0);
+    let over = oversold(&file);
+    assert_eq!([product_refusal(&over), peer_refusal(&over)], [23; 2]);
     for cut in [0, 3, 7, 100, file.len() - 1] {
         assert_eq!(product_refusal(&file[..cut]), peer_refusal(&file[..cut]));
         assert_eq!(product_copy(&file[..cut], &mut ours), peer_copy(&file[..cut], &mut theirs));

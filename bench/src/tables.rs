@@ -53,6 +53,20 @@ fn link_check(v: &Link, lines: u16, previous: Option<u16>) -> Result<(), u32> {
     Ok(())
 }
 
+/// What a link is promised of the bytes that its line carries in the longest BAG. Its code is at most 7.
+pub fn promise(v: &Link) -> u32 {
+    u32::from(v.greatest) << (7 - v.code)
+}
+
+/// Whether each line carries what its links are promised.
+pub fn carried(promised: &[u32; 24]) -> bool {
+    promised.iter().all(|&sum| sum <= 1_600_000)
+}
+
+fn lines_check(promised: &[u32; 24]) -> Result<(), u32> {
+    if carried(promised) { Ok(()) } else { Err(23) }
+}
+
 fn counts_check(lines: u16, count: u16) -> Result<(), u32> {
     if (1..=24).contains(&lines) && (1..=256).contains(&count) { Ok(()) } else { Err(3) }
 }
@@ -67,6 +81,7 @@ pub fn read(file: &[u8]) -> Result<Table, u32> {
     counts_check(lines, count)?;
     let mut links = [Link::default(); 256];
     let mut rest = &file[8..];
+    let mut promised = [0; 24];
     let mut previous = None;
     for link in links.iter_mut().take(usize::from(count)) {
         header(rest, 2, 16)?;
@@ -83,9 +98,11 @@ pub fn read(file: &[u8]) -> Result<Table, u32> {
             return Err(4);
         }
         link_check(link, lines, previous)?;
+        promised[usize::from(link.line)] += promise(link);
         previous = Some(link.number);
         rest = &rest[18..];
     }
+    lines_check(&promised)?;
     header(rest, 3, 34)?;
     let mut sizes = [0; 8];
     for (p, size) in sizes.iter_mut().enumerate() {
@@ -100,11 +117,14 @@ pub fn read(file: &[u8]) -> Result<Table, u32> {
 
 fn check(t: &Table) -> Result<(), u32> {
     counts_check(t.lines, t.count)?;
+    let mut promised = [0; 24];
     let mut previous = None;
     for v in &t.links[..usize::from(t.count)] {
         link_check(v, t.lines, previous)?;
+        promised[usize::from(v.line)] += promise(v);
         previous = Some(v.number);
     }
+    lines_check(&promised)?;
     sizes_check(&t.sizes)
 }
 
