@@ -25,6 +25,8 @@
      12,500 x 2^k ticks), zero (1), least and greatest length (2 each, 84 to 1,538), jitter (4, 0 to 125,000 ticks);
      the numbers rise;
    - once, length 34, kind 3: eight buffer sizes (4 each, 0 to 16,384), priority 0 first.
+   On each line the sum over its links of greatest length x 2^(7 - k) is at most 1,600,000, the bytes that a line carries in the
+   longest BAG.
 
    Refusals
    --------
@@ -35,6 +37,8 @@
                    5   a link's number not above the one before
                    6   a buffer size out of range
                    7   bytes behind the last record
+                  23   a line oversold: that sum is above 1,600,000. After the last link's record, and before any fault of the
+                       record of sizes or behind it
    of the sizing   8   no bounds: some priority has no hold up to 65,536 ticks
    of an output    9   too short
    of a report    10   the port record is not fit; never in these calls, which begin with a fresh port
@@ -46,7 +50,7 @@
                   16   fewer numbers left in the departure list than three for each frame held before the report
    of a batch     19   the report list is no multiple of 40 bytes, or has an unknown form in it
                   20   the answer list has fewer whole numbers than three for each report
-   17 and 18 belong to a part that has no function here. */
+   17, 18, 21 and 22 belong to parts that have no function here. */
 
 #ifndef FENUSCHIA_H
 #define FENUSCHIA_H
@@ -58,17 +62,17 @@
 extern "C" {
 #endif
 
-/* Reads a table file. Answers 0, or 1 to 7; writes nothing. */
+/* Reads a table file. Answers 0; or 1 to 7 or 23; writes nothing. */
 uint32_t fenuschia_read(const uint8_t *file, size_t file_length);
 
 /* Reads a table file and writes its table to out: 44 + 18 n bytes, as many as the file has, and equal to them; what is behind
-   them stays. Answers 0; or 1 to 7; or 9, out has fewer bytes than that. */
+   them stays. Answers 0; or 1 to 7 or 23; or 9, out has fewer bytes than that. */
 uint32_t fenuschia_write(const uint8_t *file, size_t file_length, uint8_t *out, size_t out_length);
 
 /* The sizing of the buffers of a table file. Writes 32 numbers of 8 bytes to out, 256 bytes; what is behind them stays. Priority 0 first
    in each: eight bounds, in bytes, which a buffer never holds more than; eight holds, the most ticks within which a stored frame has left;
    eight windows, how many ticks after a quiet moment the formulas first reach the bound; eight sizes, those of the table.
-   Answers 0; or 1 to 7; or 8, the table has no bounds; or 9, out has fewer than 256 bytes. */
+   Answers 0; or 1 to 7 or 23; or 8, the table has no bounds; or 9, out has fewer than 256 bytes. */
 uint32_t fenuschia_sizing(const uint8_t *file, size_t file_length, uint8_t *out, size_t out_length);
 
 /* A batch of reports to the fresh port of a table file: one after the other, as they stand.
@@ -87,7 +91,7 @@ uint32_t fenuschia_sizing(const uint8_t *file, size_t file_length, uint8_t *out,
 
    In answers and departures only whole numbers count, and what is behind those written stays as it was.
 
-   Answers 0; or 1 to 7 of the file; or 19; or 20; in that order, and all before the first report. A refused report is no
+   Answers 0; or 1 to 7 or 23 of the file; or 19; or 20; in that order, and all before the first report. A refused report is no
    refusal of the batch. No reports: 0, and nothing is written. */
 uint32_t fenuschia_batch(const uint8_t *file, size_t file_length,
                          const uint8_t *reports, size_t reports_length,
