@@ -2,12 +2,10 @@
 use mathlib.Core.Path.{refl}
 use Prim.Native.Nat.{ℕ}
 use Rattle.model.specs.Basics.{Each, done, also}
-use Rattle.model.specs.Digits.{digitsOf, fromDigits}
-use Rattle.model.specs.TableFile.{recordBytes, countsBody, linkBody, sizesBody, tableBytes, headerChecks, linkRead, sizesRead, countRecordChecks, linkRecordChecks, sizesRecordChecks, stopOr, readSizes, readLinks, readTable}
 use Rattle.model.specs.Batch.{reportOf, reportsIn, areReports, batchRefusal, batch, framesFreed, batchOr, answerBatch, numbersOf, bytesRefusal, bytesOr, fileOr, batchFile}
 use Rattle.model.specs.Examples.{Correct, batches}
 use Rattle.model.specs.Examples as example
-use Rattle.model.proofs.Examples.{settled, the-port}
+use Rattle.model.proofs.Examples.{settled, the-file, the-port}
 
 -- names for all that a batch computes with, and a call in bytes
 the-batch : ℕ
@@ -15,7 +13,7 @@ unfolding the-port answerBatch batchOr framesFreed batch batchRefusal areReports
 the-batch = 0
 
 the-bytes : ℕ
-unfolding the-batch batchFile fileOr bytesOr bytesRefusal numbersOf readTable readLinks readSizes stopOr sizesRecordChecks linkRecordChecks countRecordChecks sizesRead linkRead headerChecks tableBytes sizesBody linkBody countsBody recordBytes fromDigits digitsOf
+unfolding the-batch the-file batchFile fileOr bytesOr bytesRefusal numbersOf
 the-bytes = 0
 
 pub batchTwo : Correct example.batchTwo

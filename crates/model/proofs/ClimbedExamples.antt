@@ -15,7 +15,7 @@ use Rattle.model.specs.TableFile.{recordBytes, countsBody, linkBody, siz
 use Rattle.model.specs.Arrival.{frameCurve, onLine, lineCurve, arrivalCurve}
 use Rattle.model.specs.Bounds.{ofPriority, upTo, beyond, upArrivals, blocking, holdTest, holdOf, isThere, orZero, boundsRefusal, hold, bound, window, sizedOr, sizing}
 use Rattle.model.specs.Sheet.{text, digits, numeral, difference, fill, sheetLine, header, sheetOr, sheet}
-use Rattle.model.specs.Examples.{slowLinks, oneBusyLine, tableE, tableNt, Correct}
+use Rattle.model.specs.Examples.{alike, oneBusyLine, tableE, tableNt, Correct}
 use Rattle.model.specs.Examples as example
 use Rattle.model.proofs.Checks.{all-to}
 use Rattle.model.proofs.Search.{climb}
@@ -28,11 +28,11 @@ use Rattle.model.proofs.FormulaExamples as formed
 
 -- names for all that a climb and a table's checks compute with
 unfoldable pub the-climb : ℕ
-unfolding climbsTo climb allHold holdTest upArrivals blocking beyond upTo arrivalCurve lineCurve onLine frameCurve greatestOver sumOver anyOf bagOf provided sumTo slowLinks
+unfolding climbsTo climb allHold holdTest upArrivals blocking beyond upTo arrivalCurve lineCurve onLine frameCurve greatestOver sumOver anyOf bagOf provided sumTo alike
 the-climb = 0
 
 unfoldable pub the-checks : ℕ
-unfolding the-table slowLinks
+unfolding the-table alike
 the-checks = 0
 
 pub i : Correct example.i

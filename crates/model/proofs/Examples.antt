@@ -1,19 +1,20 @@
 -- The examples that are computed from the definitions alone.
 use mathlib.Core.Path.{_≡_, refl, ap}
-use mathlib.Core.Bool.{Bool, true, false, _&&_, and-eq-true-iff}
+use mathlib.Core.Bool.{Bool, true, false, _&&_, not, and-eq-true-iff}
 use mathlib.Core.List.{List, [], _∷_, flatMap}
 use Prim.Native.Nat.{ℕ}
 use native.Mathlib.Omega.{arith}
 use lib.Dec.{eqb}
-use lib.ListN.{getD, drop}
-use borrow.Author.Tests.{eqb-true}
+use lib.ListN.{getD, drop, replicate}
+use borrow.Author.Tests.{eqb-true, not-true}
 use Rattle.model.specs.Basics.{provided, sumTo, greatestTo, allTo, allHold, firstFrom, further, firstMet}
 use Rattle.model.specs.Units.{occupied}
 use Rattle.model.specs.Link.{bagOf, placeOf, anyOf, sumOver, greatestOver}
 use Rattle.model.specs.Table.{Table, countsInRange, fieldsInRange, notAbove, linksChecks, reservation, reservedOn, noneOversold, allAtMost, tableChecks, tableRefusal}
 use Rattle.model.specs.Arrival.{frameCurve, onLine, lineCurve, arrivalCurve}
 use Rattle.model.specs.Bounds.{ofPriority, upTo, beyond, ownArrivals, upArrivals, longest, blocking, holdTest, holdBy, holdOf, backlog, boundWithin, isThere, orZero, windowWithin, boundsRefusal, hold, bound, window}
-use Rattle.model.specs.TableFile.{tableBytes}
+use Rattle.model.specs.Digits.{digitsOf, fromDigits}
+use Rattle.model.specs.TableFile.{recordBytes, countsBody, linkBody, sizesBody, tableBytes, headerChecks, linkRead, sizesRead, countRecordChecks, linkRecordChecks, sizesRecordChecks, stopOr, readSizes, readLinks, readTable, wroteOr, writeTable}
 use Rattle.model.specs.Sheet.{text, sheet}
 use Rattle.model.specs.Machine.{highestWaiting, startIfAny, started, freedIf, byteLeaves, tick, ticks, advance, bytes, framesHeld}
 use Rattle.model.specs.Port.{fresh}
@@ -21,7 +22,7 @@ use Rattle.model.specs.Fitness.{namesLink, framesFit, senderFit, fit}
 use Rattle.model.specs.Report.{tickOf, frameChecks, reportChecks, allChecks, reportRefusal, admits, admitted, replenished, charged, checkedIf, police, policeAt, hasRoom, storedIf, store, passedIf, judge, judgeReport, bytesFreed, acceptedOr, step}
 use Rattle.model.specs.Run.{run}
 use Rattle.model.specs.Batch.{answerBatch, batchFile}
-use Rattle.model.specs.Examples.{Outcome, Example, gives-bound, gives-hold, gives-sizing, lacks-bounds, gives-answers, gives-held, gives-fates, keeps, breaks, fills, gives-bags, gives-sheet, selects, gives-batch, gives-bytes, gives-next, outcomes, Correct}
+use Rattle.model.specs.Examples.{Outcome, Example, gives-bound, gives-hold, gives-sizing, lacks-bounds, gives-answers, gives-held, gives-fates, keeps, breaks, fills, gives-bags, gives-sheet, selects, gives-batch, gives-bytes, gives-next, meets, reading-meets, writing-meets, unfit, outcomes, Correct}
 use Rattle.model.specs.Examples as example
 use Rattle.model.proofs.Bags.{bag-constants}
 
@@ -67,6 +68,10 @@ computes way (gives-batch t reports answers list refused answersAfter listAfter 
 computes way (gives-bytes file reports answers list refused answersAfter listAfter) =
     let o = batchFile file reports answers list in
     eqb (o .refused) refused && (sameNumbers (o .answers) answersAfter && sameNumbers (o .list) listAfter)
+computes way (meets t n) = eqb (tableRefusal t) n
+computes way (reading-meets file n) = eqb (readTable file .refused) n
+computes way (writing-meets t room n) = eqb (writeTable t (replicate room 0) .refused) n
+computes way (unfit t) = not (fit t (fresh t))
 -- the whole answer is shown from its parts, in ClimbedExamples, the words of demand 3 from the answers, in ClauseExamples, a full buffer
 -- in FullExamples, the eight BAGs in Bags, networks A and B in RedundancyExamples, and the next table in NextExamples
 computes way (gives-sizing t expected) = false
@@ -133,6 +138,10 @@ settled-by way sound (gives-bytes file reports answers list refused answersAfter
     let s = and-eq-true-iff (eqb (o .refused) refused) _ .0 e in
     let r = and-eq-true-iff (sameNumbers (o .answers) answersAfter) (sameNumbers (o .list) listAfter) .0 (s .1) in
     (eqb-true (o .refused) refused (s .0), numbers-equal (o .answers) answersAfter (r .0), numbers-equal (o .list) listAfter (r .1))
+settled-by way sound (meets t n) e = eqb-true (tableRefusal t) n e
+settled-by way sound (reading-meets file n) e = eqb-true (readTable file .refused) n e
+settled-by way sound (writing-meets t room n) e = eqb-true (writeTable t (replicate room 0) .refused) n e
+settled-by way sound (unfit t) e = not-true (fit t (fresh t)) e
 settled-by way sound (gives-sizing t expected) e = absurd (let z : _≡_ {A = ℕ} 0 1 = cc in omega arith)
 settled-by way sound (gives-held t calls p expected) e = absurd (let z : _≡_ {A = ℕ} 0 1 = cc in omega arith)
 settled-by way sound (gives-fates t calls n expected) e = absurd (let z : _≡_ {A = ℕ} 0 1 = cc in omega arith)
@@ -150,6 +159,11 @@ settled e x = settled-by literally literally-sound e x
 unfoldable pub the-table : ℕ
 unfolding tableRefusal tableChecks allAtMost noneOversold reservedOn reservation sumOver provided linksChecks notAbove fieldsInRange countsInRange allTo allHold firstMet
 the-table = 0
+
+-- and a table file
+unfoldable pub the-file : ℕ
+unfolding the-table readTable readLinks readSizes stopOr sizesRecordChecks linkRecordChecks countRecordChecks sizesRead linkRead headerChecks tableBytes sizesBody linkBody countsBody recordBytes fromDigits digitsOf flatMap
+the-file = 0
 
 unfoldable pub the-port : ℕ
 unfolding the-table computes sameOutcomes sameOutcome sameNumbers outcomes run step acceptedOr judgeReport judge policeAt police checkedIf passedIf store storedIf hasRoom charged replenished admitted admits reportRefusal allChecks reportChecks frameChecks tickOf fit senderFit framesFit namesLink fresh bytesFreed advance ticks tick byteLeaves freedIf started startIfAny highestWaiting bytes framesHeld placeOf bagOf further occupied flatMap

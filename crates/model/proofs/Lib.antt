@@ -66,4 +66,5 @@ pub mod ClimbedExamples
 pub mod FullExamples
 pub mod BatchExamples
 pub mod NextExamples
+pub mod LineExamples
 pub mod Theorems

@@ -17,9 +17,9 @@ use Rattle.model.proofs.ClimbedExamples.{the-climb, the-checks, Held, h
 
 -- ---- the call, by the parts of its answer
 module _ (t : Table) (line lines : ℕ) (fine : lineRefusal line lines ≡ 0) where
-  unheld : boundsRefusal t ≡ 8 → next t line lines ≡ noNext 8
+  pub unsized : (n : ℕ) → boundsRefusal t ≡ suc n → next t line lines ≡ noNext (suc n)
   unfolding next nextOr nextRefusal firstRefusal
-  unheld e = rw (fine, e)
+  unsized n e = rw (fine, e)
 
   module _ (rows : List VirtualLink) (has : boundsRefusal t ≡ 0) (are : nextLinks t line ≡ rows) where
     passes : rowsRefusal lines rows ≡ 0 → nextRefusal t line lines ≡ 0
@@ -44,7 +44,7 @@ module _ (code least jitter code' jitter' : ℕ) (k : Held (variedE code least j
   rows-are = rw (k .hold-is 0 (omega arith), k .hold-is 1 (omega arith))
 
 -- names for what the checks of the line and of the rows compute with
-the-call : ℕ
+unfoldable pub the-call : ℕ
 unfolding the-table Correct lineRefusal rowsRefusal jittersInRange
 the-call = 0
 
@@ -123,7 +123,7 @@ seven-none = climbed-past tableJ 7 30 tt
 
 pub nextUnheld : Correct example.nextUnheld
 unfolding the-call
-nextUnheld = unheld tableJ 3 5 refl (no-hold tableJ j-passes 7 (omega arith) seven-none)
+nextUnheld = unsized tableJ 3 5 refl 7 (no-hold tableJ j-passes 7 (omega arith) seven-none)
 
 pub holdJ : Correct example.holdJ
 unfolding Correct hold orZero the-climb

@@ -82,11 +82,14 @@ module _ (t : Table) (p : ℕ) where
         earlier = earlier m w (a .1 .1 .1 .0);
       }
 
-  pub by-peak : (c h m w : ℕ) → climbsTo t p c h ≡ true → peaks t p h m w ≡ true → (hold t p ≡ h) × (bound t p ≡ m) × (window t p ≡ w)
+  pub by-first : (c h m w : ℕ) → climbsTo t p c h ≡ true → FirstGreatest (backlog t p) h m w → (hold t p ≡ h) × (bound t p ≡ m) × (window t p ≡ w)
   unfolding hold orZero
-  by-peak c h m w ends x =
+  by-first c h m w ends x =
       let found = climbed t p c h ends in
       let is : hold t p ≡ h = rw found in
       let f : FirstGreatest (backlog t p) (hold t p) (bound t p) (window t p) = highest t p (hold-is t p (hold t p) (rw is found)) in
-      let same = first-one (rw is at f) (first-peak h m w x) in
+      let same = first-one (rw is at f) x in
       (is, same .0, same .1)
+
+  pub by-peak : (c h m w : ℕ) → climbsTo t p c h ≡ true → peaks t p h m w ≡ true → (hold t p ≡ h) × (bound t p ≡ m) × (window t p ≡ w)
+  by-peak c h m w ends x = by-first c h m w ends (first-peak h m w x)

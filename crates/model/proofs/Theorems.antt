@@ -26,6 +26,7 @@ use Rattle.model.proofs.ClimbedExamples as climbed
 use Rattle.model.proofs.FullExamples as full
 use Rattle.model.proofs.BatchExamples as batched
 use Rattle.model.proofs.NextExamples as hopped
+use Rattle.model.proofs.LineExamples as carried
 
 pub reads-written : ReadsWritten
 reads-written = ReadBack.read-written
@@ -123,4 +124,4 @@ examples-correct =
     also formed.a (also formed.b (also shown.c (also shown.d (also shown.e (also shown.f (also shown.g (also formed.h (also climbed.i (also climbed.j (also shown.k (also formed.l
     (also shown.m (also shown.n (also shown.o (also shown.p (also shown.q (also shown.r (also shown.s (also shown.t (also shown.u (also shown.v (also shown.w (also shown.x (also shown.y
     (also climbed.sizingE (also formed.windowK (also formed.windowP (also formed.windowO0 (also shown.windowO1 (also shown.windowNt0 (also formed.windowNt3 (also climbed.sizingNt
-    (also formed.boundC (also full.filledC (also climbed.sheetE (also climbed.sheetNt (each-of-both told.words-correct (each-of-both selected.selections-correct (each-of-both batched.batches-correct hopped.hops-correct)))))))))))))))))))))))))))))))))))))))
+    (also formed.boundC (also full.filledC (also climbed.sheetE (also climbed.sheetNt (each-of-both told.words-correct (each-of-both selected.selections-correct (each-of-both batched.batches-correct (each-of-both hopped.hops-correct carried.carriage-correct))))))))))))))))))))))))))))))))))))))))

@@ -1,15 +1,15 @@
 -- The ten marked examples of the paper, a to j, and ours: k to y, windows, a full buffer (table C), whole answers and sheets, the words of
--- demand 3, networks A and B, batches, and the next switch on the way, as one list.
+-- demand 3, networks A and B, batches, the next switch on the way, and lines oversold, as one list.
 use mathlib.Core.Path.{_≡_}
-use mathlib.Core.Bool.{true}
+use mathlib.Core.Bool.{true, false}
 use mathlib.Core.List.{List, [], _∷_, _++_, map, reverse}
 use Prim.Native.Nat.{ℕ, zero, suc, _+_, _-_}
 use Prim.Native.String.{String}
-use lib.ListN.{length, replicate}
+use lib.ListN.{length, take, set, replicate}
 use Rattle.model.specs.Basics.{eight, Each}
 use Rattle.model.specs.Link.{VirtualLink, bagOf, standardBags, linkAt}
-use Rattle.model.specs.Table.{Table, blankTable}
-use Rattle.model.specs.TableFile.{tableBytes}
+use Rattle.model.specs.Table.{Table, blankTable, tableRefusal}
+use Rattle.model.specs.TableFile.{tableBytes, readTable, writeTable}
 use Rattle.model.specs.Bounds.{boundsRefusal, hold, bound, window, Sizing, sizing}
 use Rattle.model.specs.Machine.{Frame, queueOf}
 use Rattle.model.specs.Port.{markOf, fresh}
@@ -70,6 +70,13 @@ pub data Example : Type 0 where
   gives-bytes : List ℕ → List ℕ → List ℕ → List ℕ → ℕ → List ℕ → List ℕ → Example
   -- a table, a line and a line count, with what the next port's call gives
   gives-next : Table → ℕ → ℕ → Next → Example
+  -- a table with the first check that it meets by itself, 0 if none; a file with that of its reader; a table and the length of an output with
+  -- that of the writer
+  meets : Table → ℕ → Example
+  reading-meets : List ℕ → ℕ → Example
+  writing-meets : Table → ℕ → ℕ → Example
+  -- a table whose port, fresh but for the check of the table, is not fit
+  unfit : Table → Example
 
 -- the log of calls in order, the latest first
 abbrev pub logOf : Table → List Call → List Entry
@@ -122,6 +129,10 @@ Correct (gives-bytes file reports answers list refused answersAfter listAfter) =
     let o = batchFile file reports answers list in
     (o .refused ≡ refused) × (o .answers ≡ answersAfter) × (o .list ≡ listAfter)
 Correct (gives-next t line lines expected) = next t line lines ≡ expected
+Correct (meets t n) = tableRefusal t ≡ n
+Correct (reading-meets file n) = readTable file .refused ≡ n
+Correct (writing-meets t room n) = writeTable t (replicate room 0) .refused ≡ n
+Correct (unfit t) = fit t (fresh t) ≡ false
 
 -- ---- shorthand: number, line, priority, greatest length; "All codes and jitter 0 unless named"
 abbrev pub plain : ℕ → ℕ → ℕ → ℕ → VirtualLink
@@ -210,15 +221,16 @@ abbrev pub h : Example
 h = gives-bound (threeLines []) 0 540 600 0
 
 -- "i, j. One line, priority 0, code 7: 42 links of 1,538 and one of 940 give hold 65,536; 941 instead gives 8"
-abbrev pub slow : ℕ → ℕ → VirtualLink
-slow number greatest = record { number = number; line = 0; priority = 0; code = 7; least = 84; greatest = greatest; jitter = 0 }
+abbrev pub coded : ℕ → ℕ → ℕ → VirtualLink
+coded code number greatest = record { number = number; line = 0; priority = 0; code = code; least = 84; greatest = greatest; jitter = 0 }
 
-unfoldable pub slowLinks : ℕ → List VirtualLink
-slowLinks zero = []
-slowLinks (suc n) = slowLinks n ++ (slow n 1_538 ∷ [])
+-- n links of 1,538 with a code, numbered from the number given
+unfoldable pub alike : ℕ → ℕ → ℕ → List VirtualLink
+alike code number zero = []
+alike code number (suc n) = coded code number 1_538 ∷ alike code (suc number) n
 
 abbrev pub oneBusyLine : ℕ → Table
-oneBusyLine greatest = tableOf 1 (slowLinks 42 ++ (slow 42 greatest ∷ [])) []
+oneBusyLine greatest = tableOf 1 (alike 7 0 42 ++ (coded 7 42 greatest ∷ [])) []
 
 abbrev pub i : Example
 i = gives-hold (oneBusyLine 940) 0 65_536
@@ -727,6 +739,164 @@ abbrev pub hops : List Example
 hops =
     nextE ∷ nextLeast ∷ nextMost ∷ nextPast ∷ nextSecond ∷ nextCount ∷ nextNone ∷ nextFar ∷ nextMany ∷ nextLast ∷ nextUnheld ∷ holdJ ∷ hopOne ∷ hopTwo ∷ hopSharp ∷ []
 
+-- ---- lines oversold
+
+-- on one of two lines, of code 0 and without jitter, eight links of 1,538 and one of the length given
+abbrev pub nineOn : ℕ → ℕ → List VirtualLink
+nineOn line last =
+    plain 0 line 0 1_538
+    ∷ plain 1 line 0 1_538
+    ∷ plain 2 line 0 1_538
+    ∷ plain 3 line 0 1_538
+    ∷ plain 4 line 0 1_538
+    ∷ plain 5 line 0 1_538
+    ∷ plain 6 line 0 1_538
+    ∷ plain 7 line 0 1_538
+    ∷ plain 8 line 0 last
+    ∷ []
+
+-- FULL: "exactly 1,600,000, passes, priority 0 (3075, 12500, 1557)". OVER: 23, and so the answer of its bounds
+abbrev pub tableFull : Table
+tableFull = tableOf 2 (nineOn 0 196) []
+
+abbrev pub tableOver : Table
+tableOver = tableOf 2 (nineOn 0 197) []
+
+abbrev pub fullPasses : Example
+fullPasses = meets tableFull 0
+
+abbrev pub fullBound : Example
+fullBound = gives-bound tableFull 0 3_075 12_500 1_557
+
+abbrev pub over : Example
+over = meets tableOver 23
+
+abbrev pub overBounds : Example
+overBounds = lacks-bounds tableOver 23
+
+-- SPREAD: "FULL with one of 84, code 7, on line 1: passes, then 8". "OVER on line 1: 23"
+abbrev pub tableSpread : Table
+tableSpread = tableOf 2 (nineOn 0 196 ++ (record { number = 9; line = 1; priority = 0; code = 7; least = 84; greatest = 84; jitter = 0 } ∷ [])) []
+
+abbrev pub spreadPasses : Example
+spreadPasses = meets tableSpread 0
+
+abbrev pub spreadBounds : Example
+spreadBounds = lacks-bounds tableSpread 8
+
+abbrev pub overLast : Example
+overLast = meets (tableOf 2 (nineOn 1 197) []) 23
+
+-- "n links of 1,538: 8 pass and 9 are 23 at code 0; 16 and 17 at code 1; 130 and 131 at code 4; 256 pass at codes 5 and 7"
+abbrev pub alikeMeet : ℕ → ℕ → ℕ → Example
+alikeMeet code n refused = meets (tableOf 1 (alike code 0 n) []) refused
+
+abbrev pub eightOfZero : Example
+eightOfZero = alikeMeet 0 8 0
+
+abbrev pub nineOfZero : Example
+nineOfZero = alikeMeet 0 9 23
+
+abbrev pub sixteenOfOne : Example
+sixteenOfOne = alikeMeet 1 16 0
+
+abbrev pub seventeenOfOne : Example
+seventeenOfOne = alikeMeet 1 17 23
+
+abbrev pub carriedOfFour : Example
+carriedOfFour = alikeMeet 4 130 0
+
+abbrev pub oversoldOfFour : Example
+oversoldOfFour = alikeMeet 4 131 23
+
+abbrev pub allOfFive : Example
+allOfFive = alikeMeet 5 256 0
+
+abbrev pub allOfSeven : Example
+allOfSeven = alikeMeet 7 256 0
+
+-- "with the size record cut, cut in its header, of another kind, with a size of 16,385, with a byte behind". It has 36 of the 206 bytes
+abbrev pub cutFile : List VirtualLink → List ℕ
+cutFile links = take 205 (tableBytes (tableOf 2 links []))
+
+abbrev pub cutHeader : List VirtualLink → List ℕ
+cutHeader links = take 173 (tableBytes (tableOf 2 links []))
+
+abbrev pub otherKind : List VirtualLink → List ℕ
+otherKind links = set (tableBytes (tableOf 2 links [])) 172 4
+
+abbrev pub largeSize : List VirtualLink → List ℕ
+largeSize links = tableBytes (tableOf 2 links (16_385 ∷ []))
+
+abbrev pub byteBehind : List VirtualLink → List ℕ
+byteBehind links = tableBytes (tableOf 2 links []) ++ (0 ∷ [])
+
+-- OVER's: "23 each"
+abbrev pub overCut : Example
+overCut = reading-meets (cutFile (nineOn 0 197)) 23
+
+abbrev pub overCutHeader : Example
+overCutHeader = reading-meets (cutHeader (nineOn 0 197)) 23
+
+abbrev pub overOtherKind : Example
+overOtherKind = reading-meets (otherKind (nineOn 0 197)) 23
+
+abbrev pub overLargeSize : Example
+overLargeSize = reading-meets (largeSize (nineOn 0 197)) 23
+
+abbrev pub overByteBehind : Example
+overByteBehind = reading-meets (byteBehind (nineOn 0 197)) 23
+
+-- "FULL's: 1, 1, 2, 6, 7"
+abbrev pub fullCut : Example
+fullCut = reading-meets (cutFile (nineOn 0 196)) 1
+
+abbrev pub fullCutHeader : Example
+fullCutHeader = reading-meets (cutHeader (nineOn 0 196)) 1
+
+abbrev pub fullOtherKind : Example
+fullOtherKind = reading-meets (otherKind (nineOn 0 196)) 2
+
+abbrev pub fullLargeSize : Example
+fullLargeSize = reading-meets (largeSize (nineOn 0 196)) 6
+
+abbrev pub fullByteBehind : Example
+fullByteBehind = reading-meets (byteBehind (nineOn 0 196)) 7
+
+-- "OVER with a tenth link that is cut, out of range, repeated: 1, 4, 5"
+abbrev pub withTenth : VirtualLink → List ℕ
+withTenth v = tableBytes (tableOf 2 (nineOn 0 197 ++ (v ∷ [])) [])
+
+abbrev pub tenthCut : Example
+tenthCut = reading-meets (take 187 (withTenth (plain 9 1 0 84))) 1
+
+abbrev pub tenthPast : Example
+tenthPast = reading-meets (withTenth (plain 9 2 0 84)) 4
+
+abbrev pub tenthRepeated : Example
+tenthRepeated = reading-meets (withTenth (plain 8 1 0 84)) 5
+
+-- the writer's 23 before its 9, in the chain that of the table itself, and the port of OVER
+abbrev pub overWritten : Example
+overWritten = writing-meets tableOver 0 23
+
+abbrev pub fullWritten : Example
+fullWritten = writing-meets tableFull 205 9
+
+abbrev pub nextOver : Example
+nextOver = gives-next tableOver 0 1 (noNext 23)
+
+abbrev pub overUnfit : Example
+overUnfit = unfit tableOver
+
+abbrev pub carriage : List Example
+carriage =
+    fullPasses ∷ fullBound ∷ over ∷ overBounds ∷ spreadPasses ∷ spreadBounds ∷ overLast
+    ∷ eightOfZero ∷ nineOfZero ∷ sixteenOfOne ∷ seventeenOfOne ∷ carriedOfFour ∷ oversoldOfFour ∷ allOfFive ∷ allOfSeven
+    ∷ overCut ∷ overCutHeader ∷ overOtherKind ∷ overLargeSize ∷ overByteBehind
+    ∷ fullCut ∷ fullCutHeader ∷ fullOtherKind ∷ fullLargeSize ∷ fullByteBehind ∷ tenthCut ∷ tenthPast ∷ tenthRepeated
+    ∷ overWritten ∷ fullWritten ∷ nextOver ∷ overUnfit ∷ []
+
 abbrev pub batches : List Example
 batches =
     batchTwo ∷ batchShort ∷ batchRest ∷ batchGoesOn ∷ batchUncut ∷ batchForm ∷ batchWideForm ∷ batchPart ∷ batchNoRoom ∷ batchBoth ∷ batchNone
@@ -742,7 +912,7 @@ selections = map selects recordings
 abbrev pub examples : List Example
 examples =
     a ∷ b ∷ c ∷ d ∷ e ∷ f ∷ g ∷ h ∷ i ∷ j ∷ k ∷ l ∷ m ∷ n ∷ o ∷ p ∷ q ∷ r ∷ s ∷ t ∷ u ∷ v ∷ w ∷ x ∷ y
-    ∷ sizingE ∷ windowK ∷ windowP ∷ windowO0 ∷ windowO1 ∷ windowNt0 ∷ windowNt3 ∷ sizingNt ∷ boundC ∷ filledC ∷ sheetE ∷ sheetNt ∷ (words ++ (selections ++ (batches ++ hops)))
+    ∷ sizingE ∷ windowK ∷ windowP ∷ windowO0 ∷ windowO1 ∷ windowNt0 ∷ windowNt3 ∷ sizingNt ∷ boundC ∷ filledC ∷ sheetE ∷ sheetNt ∷ (words ++ (selections ++ (batches ++ (hops ++ carriage))))
 
 abbrev pub ExamplesCorrect : Type 0
 ExamplesCorrect = Each Correct examples
