@@ -42,6 +42,10 @@ pub over : Correct example.over
 unfolding the-meeting
 over = settled example.over refl
 
+pub overSized : Correct example.overSized
+unfolding the-meeting
+overSized = settled example.overSized refl
+
 pub spreadPasses : Correct example.spreadPasses
 unfolding the-meeting
 spreadPasses = settled example.spreadPasses refl
@@ -203,8 +207,8 @@ overUnfit = settled example.overUnfit refl
 
 pub carriage-correct : Each Correct carriage
 carriage-correct =
-    also fullPasses (also fullBound (also over (also overBounds (also spreadPasses (also spreadBounds (also overLast (also eightOfZero
+    also fullPasses (also fullBound (also over (also overBounds (also overSized (also spreadPasses (also spreadBounds (also overLast (also eightOfZero
     (also nineOfZero (also sixteenOfOne (also seventeenOfOne (also carriedOfFour (also oversoldOfFour (also allOfFive (also allOfSeven
     (also overCut (also overCutHeader (also overOtherKind (also overLargeSize (also overByteBehind (also fullCut (also fullCutHeader
     (also fullOtherKind (also fullLargeSize (also fullByteBehind (also tenthCut (also tenthPast (also tenthRepeated (also overWritten
-    (also fullWritten (also nextOver (also overUnfit done)))))))))))))))))))))))))))))))
+    (also fullWritten (also nextOver (also overUnfit done))))))))))))))))))))))))))))))))

@@ -774,6 +774,10 @@ over = meets tableOver 23
 abbrev pub overBounds : Example
 overBounds = lacks-bounds tableOver 23
 
+-- 23 before 6
+abbrev pub overSized : Example
+overSized = meets (tableOf 2 (nineOn 0 197) (16_385 ∷ [])) 23
+
 -- SPREAD: "FULL with one of 84, code 7, on line 1: passes, then 8". "OVER on line 1: 23"
 abbrev pub tableSpread : Table
 tableSpread = tableOf 2 (nineOn 0 196 ++ (record { number = 9; line = 1; priority = 0; code = 7; least = 84; greatest = 84; jitter = 0 } ∷ [])) []
@@ -891,7 +895,7 @@ overUnfit = unfit tableOver
 
 abbrev pub carriage : List Example
 carriage =
-    fullPasses ∷ fullBound ∷ over ∷ overBounds ∷ spreadPasses ∷ spreadBounds ∷ overLast
+    fullPasses ∷ fullBound ∷ over ∷ overBounds ∷ overSized ∷ spreadPasses ∷ spreadBounds ∷ overLast
     ∷ eightOfZero ∷ nineOfZero ∷ sixteenOfOne ∷ seventeenOfOne ∷ carriedOfFour ∷ oversoldOfFour ∷ allOfFive ∷ allOfSeven
     ∷ overCut ∷ overCutHeader ∷ overOtherKind ∷ overLargeSize ∷ overByteBehind
     ∷ fullCut ∷ fullCutHeader ∷ fullOtherKind ∷ fullLargeSize ∷ fullByteBehind ∷ tenthCut ∷ tenthPast ∷ tenthRepeated
