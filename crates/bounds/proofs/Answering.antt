@@ -34,7 +34,7 @@ module _ (t : Table) where
   first-of zero k z = absurd (z refl)
   first-of (suc n) k z = refl
 
-  -- 3 to 6
+  -- those of the table
   pub table-refused : (n : ℕ) → n ≡ tableRefusal t → n ≢ 0 → (r : Bounds) → r ≡ record { refused = n; bounds = replicate 8 0; holds = replicate 8 0; windows = replicate 8 0 } → r ≡ recordBounds (sizing t)
   unfolding boundsRefusal tableRefusal
   table-refused n e z r q =

@@ -28,7 +28,7 @@ fn refused(number: u32) -> Bounds
     }
 }
 
-// The bounds, holds and windows of a table, or the refusal: 3 to 6, or 8 where a priority has no hold.
+// The bounds, holds and windows of a table, or the refusal: 3 to 6 or 23, or 8 where a priority has no hold.
 pub fn bounds_of(t: Table) -> Bounds
     ensures { λ r. ⌜ r ≡ recordBounds (sizing (viewTable t)) ⌝ }
 {

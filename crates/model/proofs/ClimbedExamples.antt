@@ -7,7 +7,7 @@ use Prim.Native.Nat.{ℕ, zero, suc, _<_}
 use native.Mathlib.Omega.{arith}
 use borrow.Author.Tests.{ne-eqb}
 use lib.ListN.{take}
-use Rattle.model.specs.Basics.{provided, sumTo, eight, allTo, allHold, firstMet, firstRefusal}
+use Rattle.model.specs.Basics.{provided, sumTo, eight, allTo, allHold, firstRefusal}
 use Rattle.model.specs.Link.{bagOf, anyOf, sumOver, greatestOver}
 use Rattle.model.specs.Table.{Table, sizeOf, tableRefusal}
 use Rattle.model.specs.Digits.{digitsOf}

@@ -14,7 +14,7 @@ use Rattle.model.specs.Table.{Table, countsInRange, fieldsInRange, notAb
 use Rattle.model.specs.Arrival.{frameCurve, onLine, lineCurve, arrivalCurve}
 use Rattle.model.specs.Bounds.{ofPriority, upTo, beyond, ownArrivals, upArrivals, longest, blocking, holdTest, holdBy, holdOf, backlog, boundWithin, isThere, orZero, windowWithin, boundsRefusal, hold, bound, window}
 use Rattle.model.specs.Digits.{digitsOf, fromDigits}
-use Rattle.model.specs.TableFile.{recordBytes, countsBody, linkBody, sizesBody, tableBytes, headerChecks, linkRead, sizesRead, countRecordChecks, linkRecordChecks, sizesRecordChecks, stopOr, readSizes, readLinks, readTable, wroteOr, writeTable}
+use Rattle.model.specs.TableFile.{recordBytes, countsBody, linkBody, sizesBody, tableBytes, headerChecks, linkRead, sizesRead, countRecordChecks, linkRecordChecks, sizesRecordChecks, stopOr, readSizes, readLinks, readTable, writeTable}
 use Rattle.model.specs.Sheet.{text, sheet}
 use Rattle.model.specs.Machine.{highestWaiting, startIfAny, started, freedIf, byteLeaves, tick, ticks, advance, bytes, framesHeld}
 use Rattle.model.specs.Port.{fresh}

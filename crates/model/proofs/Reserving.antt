@@ -2,12 +2,12 @@
 -- bounds is oversold on no line, nor is the line that it feeds.
 use mathlib.Core.Path.{_≡_, refl, sym, ap, _∙_}
 use mathlib.Core.Bool.{Bool, true, false, _&&_, not}
-use mathlib.Core.Option.{Option, none, some}
+use mathlib.Core.Option.{none, some}
 use mathlib.Core.List.{List, [], _∷_, _++_, map, append-assoc, List·Memᴰ, List·Memᴰ·head, List·Memᴰ·tail}
 use Prim.Native.Nat.{ℕ, zero, suc, _+_, _-_, _*_, _/_, _^_, _≤_, _<_, min, max}
 use native.Mathlib.Nat.{le-trans, mul-comm, mul-assoc, mul-left-comm, mul-le-mul-left, le-of-mul-le-mul-left, div-lt-iff-lt-mul}
 use native.Mathlib.Omega.{arith}
-use lib.Dec.{eqb, leb}
+use lib.Dec.{eqb}
 use borrow.Author.Tests.{eq-eqb, eqb-true, le-leb, not-false}
 use lib.ListN.{length}
 use Rattle.model.specs.Basics.{provided, sumTo, allTo, allHold, Check, check, firstMet}
@@ -17,14 +17,13 @@ use Rattle.model.specs.Arrival.{frameCurve, onLine, lineCurve, arrivalCu
 use Rattle.model.specs.Table.{Table, countChecks, linksChecks, reservation, reservedOn, noneOversold, lineChecks, sizeChecks, tableChecks, tableRefusal}
 use Rattle.model.specs.Bounds.{upTo, upArrivals, holdOf, isThere, orZero, boundsRefusal, hold}
 use Rattle.model.specs.NextTable.{nextLink, nextLinks}
-use Rattle.model.specs.Port.{Port}
 use Rattle.model.specs.Fitness.{fit}
 use Rattle.model.specs.Promises.{formerChecks, formerBoundsRefusal, HoldCarries, NoneRefusedNow, OversoldUnbounded, RowsCarried, OversoldUnfit}
 use Rattle.model.proofs.Bags.{bag-power, bag-positive}
 use Rattle.model.proofs.Curves.{sumTo-mono, sumOver-mono, sumOver-within, sumOver-none}
 use Rattle.model.proofs.Queues.{sumTo-one-le}
 use Rattle.model.proofs.Grouping.{sumTo-add}
-use Rattle.model.proofs.Checks.{Numbered, numbered-append, NoneMet, none-append, none-front, none-back, none-met, first-past, first-none, first-here, all-to, to-all}
+use Rattle.model.proofs.Checks.{Numbered, numbered-append, NoneMet, none-front, none-back, none-met, first-past, first-none, first-here, all-to, to-all}
 use Rattle.model.proofs.TableFacts.{FieldsFit, links-numbered, links-unmet, parts-unmet}
 use Rattle.model.proofs.Passing.{members-pass, is-passing}
 use Rattle.model.proofs.Holds.{hold-is, there-is, HasBounds, has-bounds, all-holds}

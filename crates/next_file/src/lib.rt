@@ -30,7 +30,7 @@ fn refused(number: u32) -> Writing
 }
 
 // Writes the next table's file, with these sizes, into the lent output, and answers its length; bytes behind it stay.
-// Or the refusal: 22 and 3 of line and line count; 1 to 7 of the file; 8; 21; 6 of the sizes; 9. It writes to no byte.
+// Or the refusal: 22 and 3 of line and line count; 1 to 7 and 23 of the file; 8; 21; 6 of the sizes; 9. It writes to no byte.
 pub fn next_file(file: &[u8], line: u64, lines: u64, sizes: [u64; 8], out: &mut [u8]) -> Writing
     ensures { λ r. ⌜ Wrote (nextFile (now (file .entry)) line lines sizes (now (out .entry))) (now (out .exit)) r ⌝ }
 {

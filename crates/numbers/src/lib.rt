@@ -14,6 +14,12 @@ pub fn u8_as_u64(x: u8) -> u64
     x as u64
 }
 
+pub fn u8_as_usize(x: u8) -> usize
+    ensures { λ r. ⌜ (r ≡ x) × (r ≤ 255) ⌝ }
+{
+    x as usize
+}
+
 pub fn u16_as_u32(x: u16) -> u32
     ensures { λ r. ⌜ (r ≡ x) × (r ≤ 65535) ⌝ }
 {

@@ -12,7 +12,7 @@ use Rattle.port.specs.declared.Answer.{Answer as AnswerRecord}
 use Rattle.port.specs.declared.Fresh.{Fresh as FreshRecord}
 use Rattle.port.specs.View.{viewPortTable, viewPort, freshPort, blankPort}
 
--- "fresh port: 3 to 6"
+-- "fresh port: 3 to 6", 23 among them
 unfoldable pub freshOr : ℕ → TableRecord → FreshRecord
 freshOr zero t = record { refused = 0; port = freshPort t }
 freshOr (suc n) t = record { refused = suc n; port = blankPort }

@@ -39,7 +39,7 @@ pub struct Fresh {
 }
 
 impl Port {
-    // The fresh port of a table; or the refusal, 3 to 6.
+    // The fresh port of a table; or the refusal, 3 to 6 or 23.
     pub fn fresh(table: Table) -> Fresh
         ensures { λ r. ⌜ r ≡ recordFresh table ⌝ }
     {

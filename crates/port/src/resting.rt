@@ -38,7 +38,7 @@ fn resting_with(table: Table, accounts: [Account; 256]) -> Port
     }
 }
 
-// 3 to 6; else the fresh port.
+// 3 to 6 or 23; else the fresh port.
 pub(crate) fn fresh(table: Table) -> Fresh
     ensures { λ r. ⌜ r ≡ recordFresh table ⌝ }
 {

@@ -17,7 +17,7 @@ use Rattle.port_queue_fitness.specs.declared.Fitness.{Fitness}
 use Rattle.port_queue_fitness.specs.Queues.{fitnessIf}
 use Rattle.port_record_fitness.specs.View.{viewParts}
 
--- "its table passes 3 to 6; clock ≤ 2^48 − 1", by the refusal of the table
+-- "its table passes 3 to 6; clock ≤ 2^48 − 1", by the refusal of the table, 23 among them
 abbrev pub tableFits : ℕ → ℕ → Bool
 tableFits refused clock = allHold (eqb refused 0 ∷ leb clock lastTick ∷ [])
 

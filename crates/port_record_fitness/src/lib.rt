@@ -8,7 +8,7 @@ use units::LAST_TICK;
 ghost use mathlib.Core.Path.{_≡_};
 ghost use Rattle.port_record_fitness.specs.Fitness.{tableFits, portFitness};
 
-// The table passes 3 to 6, and the clock is not past the last tick.
+// The table passes its own checks, 3 to 6 and 23, and the clock is not past the last tick.
 fn table_fits(refused: u32, clock: u64) -> bool
     ensures { λ r. ⌜ r ≡ tableFits refused clock ⌝ }
 {

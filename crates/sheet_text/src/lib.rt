@@ -19,7 +19,7 @@ fn first_refusal(file: u32, bounds: u32) -> u32
     if file != 0 { file } else { bounds }
 }
 
-// The sheet of a table file, or `refused N` with the first refusal: the reader's, 1 to 7, then 8.
+// The sheet of a table file, or `refused N` with the first refusal: the reader's, 1 to 7 or 23, then 8.
 pub fn text_of(input: &[u8]) -> Text
     ensures { λ r. ⌜ r ≡ recordText (sheet (now (input .entry))) ⌝ }
 {

@@ -2,7 +2,7 @@
 use mathlib.Core.Path.{_≡_, refl, sym, _∙_}
 use mathlib.Core.Bool.{true, false}
 use mathlib.Core.Option.{Option, none, some}
-use mathlib.Core.List.{List, _++_, append-assoc}
+use mathlib.Core.List.{List, _++_}
 use Prim.Native.Nat.{ℕ, zero, suc, _+_, _≤_, _<_}
 use native.Mathlib.Numerals.{add-one}
 use native.Mathlib.Omega.{arith}
@@ -12,7 +12,7 @@ use lib.Seq.{drop-cons}
 use Rattle.model.specs.Basics.{Check, firstMet, firstRefusal}
 use Rattle.model.specs.Link.{VirtualLink, blankLink}
 use Rattle.model.specs.Table.{Table, fieldsInRange, notAbove, countsInRange, linkChecks, linksChecks, lineChecks, sizeChecks, tableChecks, tableRefusal}
-use Rattle.model.proofs.Checks.{Numbered, first-append}
+use Rattle.model.proofs.Checks.{Numbered, numbered-append, first-append}
 use Rattle.model.proofs.TableFacts.{links-numbered}
 use Rattle.table.specs.Checks.{previousOf}
 
@@ -104,29 +104,19 @@ module _ (t : Table) where
   unfolding tableRefusal tableChecks firstMet
   counts-bad e = rw e
 
-  module _ (e : countsInRange (t .lines) (length (t .links)) ≡ true) (r : ℕ) (q : r ≡ firstMet (linksChecks (t .lines) none (t .links))) where
-    abbrev links : List Check
-    links = linksChecks (t .lines) none (t .links)
+  abbrev links-lines : List Check
+  links-lines = linksChecks (t .lines) none (t .links) ++ lineChecks (t .lines) (t .links)
 
-    abbrev lines : List Check
-    lines = lineChecks (t .lines) (t .links)
+  numbered : Numbered links-lines
+  numbered = numbered-append (linksChecks (t .lines) none (t .links)) (lineChecks (t .lines) (t .links)) (links-numbered (t .lines) none (t .links)) (omega arith)
 
-    abbrev sizes : List Check
-    sizes = sizeChecks (t .sizes)
-
-    behind-counts : tableRefusal t ≡ firstMet (links ++ (lines ++ sizes))
+  module _ (e : countsInRange (t .lines) (length (t .links)) ≡ true) (r : ℕ) (q : r ≡ firstMet (linksChecks (t .lines) none (t .links) ++ lineChecks (t .lines) (t .links))) where
+    behind-counts : tableRefusal t ≡ firstMet (links-lines ++ sizeChecks (t .sizes))
     unfolding tableRefusal tableChecks firstMet
-    behind-counts = rw (e, append-assoc links lines sizes)
+    behind-counts = rw e
 
     pub links-bad : (r ≡ 0 → ⊥) → r ≡ tableRefusal t
-    links-bad z = rw behind-counts (stops-in-front links (lines ++ sizes) (links-numbered (t .lines) none (t .links)) r q z)
+    links-bad z = rw behind-counts (stops-in-front links-lines (sizeChecks (t .sizes)) numbered r q z)
 
-    module _ (z : r ≡ 0) (o : ℕ) (p : o ≡ firstMet (lineChecks (t .lines) (t .links))) where
-      behind-links : tableRefusal t ≡ firstMet (lines ++ sizes)
-      behind-links = behind-counts ∙ goes-on-behind links (lines ++ sizes) (links-numbered (t .lines) none (t .links)) r q z
-
-      pub lines-bad : (o ≡ 0 → ⊥) → o ≡ tableRefusal t
-      lines-bad y = rw behind-links (stops-in-front lines sizes (omega arith) o p y)
-
-      pub sizes-last : o ≡ 0 → (s : ℕ) → s ≡ firstMet (sizeChecks (t .sizes)) → s ≡ tableRefusal t
-      sizes-last y s x = x ∙ sym (behind-links ∙ goes-on-behind lines sizes (omega arith) o p y)
+    pub sizes-last : r ≡ 0 → (s : ℕ) → s ≡ firstMet (sizeChecks (t .sizes)) → s ≡ tableRefusal t
+    sizes-last z s p = p ∙ sym (behind-counts ∙ goes-on-behind links-lines (sizeChecks (t .sizes)) numbered r q z)

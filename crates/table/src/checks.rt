@@ -3,9 +3,11 @@ use crate::Table;
 use crate::VirtualLink;
 use numbers::excess;
 use numbers::smaller;
-use numbers::u16_as_u64;
 use numbers::u8_as_u16;
 use numbers::u8_as_u64;
+use numbers::u8_as_usize;
+use numbers::u16_as_u32;
+use numbers::u16_as_u64;
 use units::GREATEST_JITTER;
 use units::GREATEST_LENGTH;
 use units::LEAST_LENGTH;
@@ -13,12 +15,12 @@ use units::LINE_CAPACITY;
 ghost use mathlib.Core.Path.{_≡_};
 ghost use mathlib.Core.Bool.{true};
 ghost use mathlib.Core.Option.{none};
+ghost use mathlib.Core.List.{_++_};
 ghost use Prim.Native.Nat.{ℕ, _≤_};
-ghost use Rattle.model.specs.Basics.{provided, firstMet};
-ghost use Rattle.model.specs.Link.{sumOver};
+ghost use Rattle.model.specs.Basics.{firstMet};
 ghost use Rattle.model.specs.Table.{countsInRange, fieldsInRange, linkChecks, linksChecks, reservation, lineChecks, sizeChecks};
 ghost use Rattle.table.specs.View.{viewLink, viewLinks};
-ghost use Rattle.table.specs.Checks.{previousOf, onLineOrAny};
+ghost use Rattle.table.specs.Checks.{previousOf, SumsOf, OversoldBy};
 
 pub fn counts_in_range(lines: u16, count: u16) -> bool
     ensures { λ r. ⌜ r ≡ countsInRange lines count ⌝ }
@@ -76,12 +78,35 @@ pub fn link_refusal(lines: u16, before: usize, previous: u16, number: u16, link:
     0
 }
 
-// The first check from 4 to 5 that a link of the table meets.
+// What a link reserves: its greatest length times 2^(7 − code), a code above 7 counting as 7.
+fn reservation_of(link: VirtualLink) -> u32
+    ensures { λ r. ⌜ ((n : ℕ) → r ≡ reservation (viewLink n link)) × (r ≤ 8388480) ⌝ }
+{
+    u16_as_u32(link.greatest) << excess(7, u8_as_u64(link.code))
+}
+
+// 23 where a line is oversold, by what the links on each line reserve.
+fn oversold(sums: [u32; 256], lines: u16) -> u32
+    ensures { λ r. ⌜ OversoldBy sums lines r ⌝ }
+{
+    let n = smaller(u16_as_u64(lines), 256) as usize;
+    let mut line: usize = 0;
+    while line < n {
+        if LINE_CAPACITY < sums[line] {
+            return 23;
+        }
+        line += 1;
+    }
+    0
+}
+
+// The first check that a link of the table meets, 4 or 5; then 23.
 pub(crate) fn links_refusal(t: Table) -> u32
     requires { ⌜ countsInRange (t .lines) (t .count) ≡ true ⌝ }
-    ensures { λ r. ⌜ r ≡ firstMet (linksChecks (t .lines) none (viewLinks t)) ⌝ }
+    ensures { λ r. ⌜ r ≡ firstMet (linksChecks (t .lines) none (viewLinks t) ++ lineChecks (t .lines) (viewLinks t)) ⌝ }
 {
     let n = t.count as usize;
+    let mut sums = [0u32; 256];
     let mut previous: u16 = 0;
     let mut i: usize = 0;
     while i < n {
@@ -91,56 +116,38 @@ pub(crate) fn links_refusal(t: Table) -> u32
         if refused != 0 {
             return refused;
         }
+        let line = u8_as_usize(link.line);
+        let more = reservation_of(link);
+        sums[line] += more;
         previous = number;
         i += 1;
     }
-    0
+    oversold(sums, t.lines)
 }
 
-// What a link reserves: its greatest length times 2^(7 − code), a code above 7 counting as 7.
-fn reservation_of(link: VirtualLink) -> u64
-    ensures { λ r. ⌜ ((n : ℕ) → r ≡ reservation (viewLink n link)) × (r ≤ 8388480) ⌝ }
-{
-    u16_as_u64(link.greatest) << excess(7, u8_as_u64(link.code))
-}
-
-fn counted(counts: bool, amount: u64) -> u64
-    ensures { λ r. ⌜ (r ≡ provided counts amount) × (r ≤ amount) ⌝ }
-{
-    if counts { amount } else { 0 }
-}
-
-// What the links on a line reserve; or those on any.
-fn reserved(t: Table, any: bool, line: u16) -> u64
-    ensures { λ r. ⌜ r ≡ sumOver (onLineOrAny any line) reservation (viewLinks t) ⌝ }
+// What the links on each line reserve.
+fn reserved(t: Table) -> [u32; 256]
+    ensures { λ r. ⌜ SumsOf r (viewLinks t) ⌝ }
 {
     let n = smaller(u16_as_u64(t.count), 256) as usize;
-    let mut sum: u64 = 0;
+    let mut sums = [0u32; 256];
     let mut i: usize = 0;
     while i < n {
         let link = t.links[i];
-        sum += counted(any | (u8_as_u16(link.line) == line), reservation_of(link));
+        let on = u8_as_usize(link.line);
+        let more = reservation_of(link);
+        sums[on] += more;
         i += 1;
     }
-    sum
+    sums
 }
 
-// 23 where a line is oversold. Where all links together reserve no more than a line carries, as in every table that has bounds,
-// no line is looked at by itself.
+// 23 where a line is oversold, of any table: for those whose links were checked one by one.
 pub fn lines_refusal(t: Table) -> u32
     ensures { λ r. ⌜ r ≡ firstMet (lineChecks (t .lines) (viewLinks t)) ⌝ }
 {
-    if reserved(t, true, 0) <= LINE_CAPACITY {
-        return 0;
-    }
-    let mut line: u16 = 0;
-    while line < t.lines {
-        if LINE_CAPACITY < reserved(t, false, line) {
-            return 23;
-        }
-        line += 1;
-    }
-    0
+    let sums = reserved(t);
+    oversold(sums, t.lines)
 }
 
 pub fn sizes_refusal(sizes: [u32; 8]) -> u32

@@ -46,10 +46,6 @@ pub fn check(t: Table) -> u32
     if refused != 0 {
         return refused;
     }
-    let oversold = checks::lines_refusal(t);
-    if oversold != 0 {
-        return oversold;
-    }
     let sizes = t.sizes;
     checks::sizes_refusal(sizes)
 }

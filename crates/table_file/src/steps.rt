@@ -95,20 +95,28 @@ pub(crate) fn ended(
     if step.at <= numbers::u16_as_usize(step.count) {
         return crate::refused(step.refused);
     }
-    let mut table = Table {
+    let rows = Table {
         lines: step.lines,
         count: step.count,
         numbers,
         links,
         sizes: [0u32; 8],
     };
-    let oversold = table::checks::lines_refusal(table);
+    let oversold = table::checks::lines_refusal(rows);
     if oversold != 0 {
         return crate::refused(oversold);
     }
     let Record::Sizes(a, b, c, d, e, f, g, h) = next else {
         return crate::refused(step.refused);
     };
-    table.sizes = [a, b, c, d, e, f, g, h];
-    Reading { refused: 0, table }
+    Reading {
+        refused: 0,
+        table: Table {
+            lines: step.lines,
+            count: step.count,
+            numbers,
+            links,
+            sizes: [a, b, c, d, e, f, g, h],
+        },
+    }
 }

@@ -23,7 +23,7 @@ pub const GREATEST_JITTER: u32 = 125000;
 pub const LEAST_BAG: u64 = 12500;
 
 // What a line carries within the greatest BAG, of as many ticks: so many wire bytes.
-pub const LINE_CAPACITY: u64 = 1600000;
+pub const LINE_CAPACITY: u32 = 1600000;
 
 // The bytes of a frame on the wire that its buffer does not keep: preamble and gap.
 pub const UNKEPT: u64 = 20;

@@ -1,7 +1,7 @@
 use borrow.Author.Needs.{needs}
 use borrow.Author.Tests.{not-true, not-false}
 use mathlib.Core.Path.{sym, _∙_}
-use Rattle.table.proofs.Links.{counts-refused, links-refused, lines-refused, sizes-decide}
+use Rattle.table.proofs.Links.{counts-refused, links-refused, sizes-decide}
 use Rattle.table.proofs.check.Statement.{statement}
 use Rattle.table.proofs.check.Tie as tie
 
@@ -17,17 +17,11 @@ links-refusal-requires c κs = sym (c .before .counts-in-range .ensures) ∙ not
 returns-2 : tie.Need-returns-2
 returns-2 c = links-refused (c .before .before .before .before .args .t) (sym (c .before .before .before .counts-in-range .ensures) ∙ not-false (c .before .before .before .counts-in-range .result) (c .before .before .if1 .left)) _ (c .before .links-refusal .ensures) (c .if2 .taken)
 
-lines-refusal-requires : tie.Need-lines-refusal-requires
-lines-refusal-requires c κs = search needs
-
-returns-3 : tie.Need-returns-3
-returns-3 c = lines-refused (c .before .before .before .before .before .before .args .t) (sym (c .before .before .before .before .before .counts-in-range .ensures) ∙ not-false (c .before .before .before .before .before .counts-in-range .result) (c .before .before .before .before .if1 .left)) _ (c .before .before .before .links-refusal .ensures) (c .before .before .if2 .left) _ (c .before .lines-refusal .ensures) (c .if3 .taken)
-
 sizes-refusal-requires : tie.Need-sizes-refusal-requires
 sizes-refusal-requires c κs = search needs
 
-returns-4 : tie.Need-returns-4
-returns-4 c = sizes-decide (c .before .before .before .before .before .before .before .before .args .t) (sym (c .before .before .before .before .before .before .before .counts-in-range .ensures) ∙ not-false (c .before .before .before .before .before .before .before .counts-in-range .result) (c .before .before .before .before .before .before .if1 .left)) _ (c .before .before .before .before .before .links-refusal .ensures) (c .before .before .before .before .if2 .left) _ (c .before .before .before .lines-refusal .ensures) (c .before .before .if3 .left) _ (c .sizes-refusal .ensures)
+returns-3 : tie.Need-returns-3
+returns-3 c = sizes-decide (c .before .before .before .before .before .before .args .t) (sym (c .before .before .before .before .before .counts-in-range .ensures) ∙ not-false (c .before .before .before .before .before .counts-in-range .result) (c .before .before .before .before .if1 .left)) _ (c .before .before .before .links-refusal .ensures) (c .before .before .if2 .left) _ (c .sizes-refusal .ensures)
 
 pub check-spec : {M : Type 1} → statement M
 check-spec =
@@ -37,7 +31,5 @@ check-spec =
     returns
     links-refusal-requires
     returns-2
-    lines-refusal-requires
-    returns-3
     sizes-refusal-requires
-    returns-4)
+    returns-3)

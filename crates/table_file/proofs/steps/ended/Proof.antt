@@ -43,10 +43,10 @@ returns-3 c =
 
 returns-4 : tie.Need-returns-4
 returns-4 c =
-    let start = c .before .before .before .before .before .before .before .before .before .args in
-    let sold = c .before .before .before .before .before .lines-refusal in
-    let n = c .before .before .next .given in
-    ended-sizes (start .step) (start .numbers) (start .links) (start .next) (omega arith) (sold .result) (sold .ensures) (c .before .before .before .before .if2 .left) _
+    let start = c .before .before .before .before .before .before .before .before .args in
+    let sold = c .before .before .before .before .lines-refusal in
+    let n = c .before .next .given in
+    ended-sizes (start .step) (start .numbers) (start .links) (start .next) (omega arith) (sold .result) (sold .ensures) (c .before .before .before .if2 .left) _
     (sizes-in (start .step) (start .numbers) (start .links) (start .next) (n .0 .0) (n .0 .1 .0) (n .0 .1 .1 .0) (n .0 .1 .1 .1 .0) (n .0 .1 .1 .1 .1 .0) (n .0 .1 .1 .1 .1 .1 .0) (n .0 .1 .1 .1 .1 .1 .1 .0) (n .0 .1 .1 .1 .1 .1 .1 .1 .0) (n .1))
 
 pub ended-spec : {M : Type 1} → statement M
