@@ -17,7 +17,8 @@ use Rattle.model.specs.Link.{VirtualLink, linkAt}
 use Rattle.model.specs.Table.{Table, sizeOf}
 use Rattle.model.specs.Bounds.{longest, blocking, orZero, hold, bound}
 use Rattle.model.specs.Machine.{Frame, idle, Scheduler, Departure, queueOf, queuedLast, advance, stored, bytes, held}
-use Rattle.model.specs.Port.{Port, markOf, fresh}
+use Rattle.model.specs.Counters.{Counters}
+use Rattle.model.specs.Port.{Port, markOf, fresh, withCounters}
 use Rattle.model.specs.Report.{Report, wait, frame, tickOf, Judged, storedIf, Call, Stepped, arrived}
 use Rattle.model.specs.Run.{Entry, run, accepted, frameIf, storedBy, droppedBy, passedBy, without, withoutAll, andLast, heldFrames, isPriority, hasPriority, only, heldOf, mostHeld, Always, start, then}
 use Rattle.model.specs.Promises.{DemandThree}
@@ -32,7 +33,7 @@ use Rattle.model.proofs.QueueSteps.{advance-clock}
 use Rattle.model.proofs.Ledger.{Booked, booked-put, ticks-booked}
 use Rattle.model.proofs.Stepping.{Admitted, policedPort, chargedPort, priorityAt, Judgement, filters, polices, drops, stores, Timely, Arrives, movedTo, reached, freedBy, Stepping, refuses, waits, frames, stepping}
 use Rattle.model.proofs.Log.{entryOf, taken, declined, departures-taken, departures-declined, frame-declined, not-accepted, andPassed, passedFrames}
-use Rattle.model.proofs.Invariant.{Ordered, Invariant, moved-ordered, meets-its-queue, grown, step-kept, fresh-kept, empty-queues, no-marks}
+use Rattle.model.proofs.Invariant.{Ordered, Invariant, uncounted, moved-ordered, meets-its-queue, grown, step-kept, fresh-kept, empty-queues, no-marks}
 use Rattle.model.proofs.Paying.{not-policed}
 use Rattle.model.proofs.Levels.{upPassed, ownPassed, Levels, held-bound, advance-levels, lost-levels, stored-levels}
 
@@ -68,6 +69,10 @@ pub record DemandKept (t : Table) (s : Port) (log : List Entry) : Type 0 where
   pub booked : Booked t (heldFrames log) (s .scheduler .queues)
   pub marked : (p : ℕ) → p < 8 → markOf s p ≡ mostHeld t p log
   pub said : SaidSoFar t log
+
+-- the counters play no part in it but in the invariant
+recounted : {t : Table} {s : Port} {log : List Entry} {c : Counters} → Invariant t (withCounters s c) log → DemandKept t s log → DemandKept t (withCounters s c) log
+recounted i' k = record { invariant = i'; levels = k .levels; booked = k .booked; marked = k .marked; said = k .said }
 
 -- what a buffer holds is at most the most that it has held
 held-most : (t : Table) (log : List Entry) (queues : List (List Frame)) → Booked t (heldFrames log) queues → (p : ℕ) → p < 8 → held (queueOf queues p) ≤ mostHeld t p log
@@ -278,7 +283,7 @@ module _ (t : Table) (b : HasBounds t) (v : Passing t) (s : Port) (log : List En
   kept-after : {r : Report} {x : Stepped} → Stepping t s list r x → Invariant t (x .port) (entryOf r x ∷ log) → DemandKept t (x .port) (entryOf r x ∷ log)
   kept-after (refuses {r = r} n) i' = refused-kept r n i'
   kept-after (waits time timely) i' = waited-kept time timely i'
-  kept-after (frames time line number len timely arrives j) i' = judged-kept time timely line number len arrives j i'
+  kept-after (frames time line number len timely arrives j) i' = recounted i' (judged-kept time timely line number len arrives j (uncounted i'))
 
 -- ---- the fresh port
 fresh-demand : (t : Table) → HasBounds t → DemandKept t (fresh t) []

@@ -17,9 +17,10 @@ use Rattle.model.specs.Digits.{digitsOf, fromDigits}
 use Rattle.model.specs.TableFile.{recordBytes, countsBody, linkBody, sizesBody, tableBytes, headerChecks, linkRead, sizesRead, countRecordChecks, linkRecordChecks, sizesRecordChecks, stopOr, readSizes, readLinks, readTable, writeTable}
 use Rattle.model.specs.Sheet.{text, sheet}
 use Rattle.model.specs.Machine.{highestWaiting, startIfAny, started, freedIf, byteLeaves, tick, ticks, advance, bytes, framesHeld}
+use Rattle.model.specs.Counters.{risen, counted, everyCount}
 use Rattle.model.specs.Port.{fresh}
 use Rattle.model.specs.Fitness.{namesLink, framesFit, senderFit, fit}
-use Rattle.model.specs.Report.{tickOf, frameChecks, reportChecks, allChecks, reportRefusal, admits, admitted, replenished, charged, checkedIf, police, policeAt, hasRoom, storedIf, store, passedIf, judge, judgeReport, bytesFreed, acceptedOr, step}
+use Rattle.model.specs.Report.{tickOf, frameChecks, reportChecks, allChecks, reportRefusal, admits, admitted, replenished, charged, checkedIf, police, policeAt, hasRoom, storedIf, store, passedIf, judge, judgeReport, countedBy, bytesFreed, acceptedOr, step}
 use Rattle.model.specs.Run.{run}
 use Rattle.model.specs.Batch.{answerBatch, batchFile}
 use Rattle.model.specs.Examples.{Outcome, Example, gives-bound, gives-hold, gives-sizing, lacks-bounds, gives-answers, gives-held, gives-fates, keeps, breaks, fills, gives-bags, gives-sheet, selects, gives-batch, gives-bytes, gives-next, meets, reading-meets, writing-meets, unfit, outcomes, Correct}
@@ -166,7 +167,7 @@ unfolding the-table readTable readLinks readSizes stopOr sizesRecordChecks linkR
 the-file = 0
 
 unfoldable pub the-port : ℕ
-unfolding the-table computes sameOutcomes sameOutcome sameNumbers outcomes run step acceptedOr judgeReport judge policeAt police checkedIf passedIf store storedIf hasRoom charged replenished admitted admits reportRefusal allChecks reportChecks frameChecks tickOf fit senderFit framesFit namesLink fresh bytesFreed advance ticks tick byteLeaves freedIf started startIfAny highestWaiting bytes framesHeld placeOf bagOf further occupied flatMap
+unfolding the-table computes sameOutcomes sameOutcome sameNumbers outcomes run step acceptedOr countedBy counted risen judgeReport judge policeAt police checkedIf passedIf store storedIf hasRoom charged replenished admitted admits reportRefusal allChecks reportChecks frameChecks tickOf fit everyCount senderFit framesFit namesLink fresh bytesFreed advance ticks tick byteLeaves freedIf started startIfAny highestWaiting bytes framesHeld placeOf bagOf further occupied flatMap
 the-port = 0
 
 the-formulas : ℕ

@@ -29,6 +29,7 @@ use Rattle.model.proofs.FramesFreed.{ticks-count}
 use Rattle.model.proofs.Refusals.{refusal-apart}
 use Rattle.model.proofs.Lined.{Lined, lined-fit, fit-lined, lined-count, lined-meets}
 use Rattle.model.proofs.Log.{passedFrames}
+use Rattle.model.proofs.Counting.{FitCounts, fit-counts, counts-fit, run-counts}
 use Rattle.model.proofs.Invariant.{Ordered, Invariant, run-kept}
 
 -- ---- what is kept is fit
@@ -53,7 +54,7 @@ pub record FitGate (t : Table) (clock : ℕ) (g : Gate) : Type 0 where
   pub accounts-past : (i : ℕ) → i < length (t .links) → accountAt (g .accounts) i .tick ≤ clock
   pub accounts-top : (i : ℕ) → i < length (t .links) → accountAt (g .accounts) i .credit ≤ bag (linkAt (t .links) i) + linkAt (t .links) i .jitter
 
-module _ (t : Table) (passes : tableRefusal t ≡ 0) (s : Port) (k : Ordered t s) (g : FitGate t (s .scheduler .clock) (s .gate)) where
+module _ (t : Table) (passes : tableRefusal t ≡ 0) (s : Port) (k : Ordered t s) (g : FitGate t (s .scheduler .clock) (s .gate)) (c : FitCounts (length (t .links)) (s .counters)) where
   few : (p : ℕ) → p < 8 → length (queueOf (s .scheduler .queues) p) ≤ mostFrames
   unfolding occupied
   few p l =
@@ -89,7 +90,7 @@ module _ (t : Table) (passes : tableRefusal t ≡ 0) (s : Port) (k : Ordered t s
                         to-all _ (length (t .links))
                             (λ i l.
                             le-leb (accountAt (s .gate .accounts) i .credit) (bag (linkAt (t .links) i) + linkAt (t .links) i .jitter) (g .accounts-top i l)),
-                        (sends-fit (s .scheduler .clock) (s .scheduler .queues) (k .sound .eight) (s .scheduler .sender) (k .sound .sends), tt),
+                        (sends-fit (s .scheduler .clock) (s .scheduler .queues) (k .sound .eight) (s .scheduler .sender) (k .sound .sends), (counts-fit (length (t .links)) (s .counters) c, tt)),
                       ),
                     ),
                   ),
@@ -101,14 +102,15 @@ module _ (t : Table) (passes : tableRefusal t ≡ 0) (s : Port) (k : Ordered t s
       )
 
 -- ---- what every list of reports keeps is fit
-kept-fit : (t : Table) → tableRefusal t ≡ 0 → (s : Port) (log : List Entry) → Invariant t s log → fit t s ≡ true
-kept-fit t passes s log k =
+kept-fit : (t : Table) → tableRefusal t ≡ 0 → (s : Port) (log : List Entry) → Invariant t s log → FitCounts (length (t .links)) (s .counters) → fit t s ≡ true
+kept-fit t passes s log k c =
     ordered-fit t passes s (k .ordered)
     (record {
       lines-past = good .line-past;
       accounts-past = good .account-past;
       accounts-top = λ i l. credit-top (linkAt (t .links) i) (passedFrames t log) (accountAt (s .gate .accounts) i) (good .credited i l);
     })
+    c
   where
     good : Good occupied (upTo 0) (t .lines) (t .links) (passedFrames t log) (s .scheduler .clock) (s .gate)
     good = k .good occupied occupied-weight (upTo 0)
@@ -126,7 +128,7 @@ step-apart t s c e x =
 
 module _ (t : Table) (passes : tableRefusal t ≡ 0) where
   run-fit : (calls : List Call) → fit t (run t calls .port) ≡ true
-  run-fit calls = kept-fit t passes (run t calls .port) (run t calls .log) (run-kept t (is-passing t passes) calls)
+  run-fit calls = kept-fit t passes (run t calls .port) (run t calls .log) (run-kept t (is-passing t passes) calls) (run-counts t calls)
 
   run-apart : (calls : List Call) → Always (λ e log. e .answer .refused ≡ 10 → ⊥) (run t calls .log)
   unfolding run
@@ -146,6 +148,7 @@ pub record FitPort (t : Table) (s : Port) : Type 0 where
   pub within : (p : ℕ) → p < 8 → markOf s p ≤ sizeOf t p
   pub gate : FitGate t (s .scheduler .clock) (s .gate)
   pub sender : senderFit (s .scheduler .clock) (s .scheduler .queues) (s .scheduler .sender) ≡ true
+  pub counts : FitCounts (length (t .links)) (s .counters)
 
 pub fit-is : (t : Table) (s : Port) → fit t s ≡ true → FitPort t s
 unfolding fit
@@ -171,6 +174,7 @@ fit-is t s e =
                 (all-to (λ k. leb (accountAt (s .gate .accounts) k .credit) (bag (linkAt (t .links) k) + linkAt (t .links) k .jitter)) (length (t .links)) (all .1 .1 .1 .1 .1 .1 .1 .1 .0) i l);
           };
       sender = all .1 .1 .1 .1 .1 .1 .1 .1 .1 .0;
+      counts = fit-counts (length (t .links)) (s .counters) (all .1 .1 .1 .1 .1 .1 .1 .1 .1 .1 .0);
     }
 
 fit-sends : (clock : ℕ) (queues : List (List Frame)) → length queues ≡ 8 → (z : Sender) → senderFit clock queues z ≡ true → SendsInTime clock queues z

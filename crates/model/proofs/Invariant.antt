@@ -18,7 +18,8 @@ use Rattle.model.specs.Link.{VirtualLink, bag, linkAt, placeOf}
 use Rattle.model.specs.Table.{Table, sizeOf}
 use Rattle.model.specs.Bounds.{ofPriority, longest, orZero}
 use Rattle.model.specs.Machine.{Frame, queueOf, queuedLast, advance, bytes, held}
-use Rattle.model.specs.Port.{Gate, Port, markOf, fresh, withGate, withLineTick, withAccount}
+use Rattle.model.specs.Counters.{Counters}
+use Rattle.model.specs.Port.{Gate, Port, markOf, fresh, withGate, withCounters, withLineTick, withAccount}
 use Rattle.model.specs.Fitness.{namesLink}
 use Rattle.model.specs.Report.{Report, frame, Judged, storedIf, arrived, Stepped, Call}
 use Rattle.model.specs.Run.{Entry, accepted, frameIf, passedBy, run}
@@ -55,6 +56,15 @@ pub record Invariant (t : Table) (s : Port) (log : List Entry) : Type 0 where
 -- the gate plays no part in it
 pub regated : (t : Table) (s : Port) → Ordered t s → (g : Gate) → Ordered t (withGate s g)
 regated t s k g = record { sound = k .sound; lined = k .lined; early = k .early; eight = k .eight; below = k .below; within = k .within }
+
+-- nor do the counters
+pub recounted-order : {t : Table} {s : Port} (c : Counters) → Ordered t s → Ordered t (withCounters s c)
+recounted-order c k = record { sound = k .sound; lined = k .lined; early = k .early; eight = k .eight; below = k .below; within = k .within }
+
+pub uncounted : {t : Table} {s : Port} {log : List Entry} {c : Counters} → Invariant t (withCounters s c) log → Invariant t s log
+uncounted {t} {s} k =
+    let o = k .ordered in
+    record { ordered = record { sound = o .sound; lined = o .lined; early = o .early; eight = o .eight; below = o .below; within = o .within }; good = k .good }
 
 -- ---- an advance
 pub moved-ordered : (t : Table) (s : Port) (time : ℕ) → Timely s time → Ordered t s → Ordered t (movedTo s time)
@@ -204,7 +214,8 @@ module _ (t : Table) (valid : Passing t) (s : Port) (log : List Entry) (k : Inva
         ordered = moved time timely;
         good = λ weight z members. rw (there time timely) (later-good (k .good weight z members) time (timely .from));
       }
-  step-kept list (frames time line number len timely arrives j) = judged-kept time timely line number len arrives list j
+  step-kept list (frames time line number len timely arrives j) =
+      let x = judged-kept time timely line number len arrives list j in record { ordered = recounted-order _ (x .ordered); good = x .good }
 
 -- ---- the fresh port
 pub empty-queues : (n p : ℕ) → getD {A = List Frame} (replicate n []) p [] ≡ []

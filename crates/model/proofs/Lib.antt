@@ -41,6 +41,7 @@ pub mod Departures
 -- ---- reports: refusals, cases of a step, the log, what every list of reports keeps, fitness
 pub mod Refusals
 pub mod Stepping
+pub mod Counting
 pub mod Accepted
 pub mod Lined
 pub mod Log

@@ -1,7 +1,7 @@
 -- Lists made of a function.
 use mathlib.Core.Path.{_≡_, refl, ap}
 use mathlib.Core.List.{List, [], _∷_, _++_, append-nil, append-assoc, map, flatMap}
-use Prim.Native.Nat.{ℕ, zero, suc, _*_, _<_}
+use Prim.Native.Nat.{ℕ, zero, suc, _-_, _*_, _<_}
 use native.Mathlib.Omega.{arith}
 use lib.ListN.{length, getD, set, length-append}
 use Rattle.model.specs.Basics.{eight, Each, done, also}
@@ -37,3 +37,11 @@ pub flatMap-more : {A : Type 0} {B : Type 0} (f : A → List B) (l : List A) (x 
 unfolding flatMap
 flatMap-more f [] x = rw append-nil
 flatMap-more f (y ∷ l) x = rw append-assoc (ap (λ r. f y ++ r) (flatMap-more f l x))
+
+-- one place of a list is set, if it is one of the list's
+pub set-each : {A : Type 0} (Q : ℕ → A → Type 0) (n : ℕ) (l : List A) (d : A) (i : ℕ) (a : A) → (i < n → Q i a) → ((j : ℕ) → j < n → Q j (getD l j d)) → (j : ℕ) → j < n → Q j (getD (set l i a) j d)
+set-each Q n [] d i a here each j m = each j m
+set-each Q n (x ∷ l) d zero a here each zero m = here m
+set-each Q n (x ∷ l) d zero a here each (suc j) m = each (suc j) m
+set-each Q n (x ∷ l) d (suc i) a here each zero m = each 0 m
+set-each Q n (x ∷ l) d (suc i) a here each (suc j) m = set-each (λ k. Q (suc k)) (n - 1) l d i a (λ o. here (omega arith)) (λ k o. each (suc k) (omega arith)) j (omega arith)

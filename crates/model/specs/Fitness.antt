@@ -6,10 +6,11 @@ use Prim.Native.Nat.{ℕ, _+_}
 use lib.Dec.{eqb, leb, ltb}
 use lib.ListN.{length}
 use Rattle.model.specs.Basics.{allTo, allHold}
-use Rattle.model.specs.Units.{lastTick, mostFrames}
+use Rattle.model.specs.Units.{lastTick, mostFrames, fullCount}
 use Rattle.model.specs.Link.{bag, linkAt, placeOf}
 use Rattle.model.specs.Table.{Table, sizeOf, tableRefusal}
 use Rattle.model.specs.Machine.{Frame, Sender, idle, sending, queueOf, headOf, held}
+use Rattle.model.specs.Counters.{everyCount}
 use Rattle.model.specs.Port.{Port, accountAt, markOf, lineTick}
 
 -- "queued frames name links of their priority within length limits"
@@ -48,7 +49,7 @@ senderFit clock queues (sending p start) =
     ∷ []
     )
 
--- "A port record is fit if" all of these hold, in the paper's order
+-- "A port record is fit if" all of these hold, in the paper's order; and "Fitness requires all counts to be at most 2^52"
 unfoldable pub fit : Table → Port → Bool
 fit t s =
     allHold (
@@ -62,5 +63,6 @@ fit t s =
     ∷ allTo (λ i. leb (accountAt (s .gate .accounts) i .tick) (s .scheduler .clock)) (length (t .links))
     ∷ allTo (λ i. leb (accountAt (s .gate .accounts) i .credit) (bag (linkAt (t .links) i) + linkAt (t .links) i .jitter)) (length (t .links))
     ∷ senderFit (s .scheduler .clock) (s .scheduler .queues) (s .scheduler .sender)
+    ∷ everyCount (λ count. leb count fullCount) (length (t .links)) (s .counters)
     ∷ []
     )

@@ -8,6 +8,7 @@ pub mod TableFile
 pub mod Arrival
 pub mod Bounds
 pub mod Machine
+pub mod Counters
 pub mod Port
 pub mod Fitness
 pub mod Report

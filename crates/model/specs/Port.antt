@@ -1,10 +1,11 @@
 -- The port: its state, fresh, and with one part of it changed.
 use mathlib.Core.List.{List, [], map}
 use Prim.Native.Nat.{ℕ, _+_}
-use lib.ListN.{getD, set, replicate}
+use lib.ListN.{length, getD, set, replicate}
 use Rattle.model.specs.Link.{VirtualLink, bag}
 use Rattle.model.specs.Table.{Table}
 use Rattle.model.specs.Machine.{idle, Scheduler, at}
+use Rattle.model.specs.Counters.{Counters, noneCounted}
 
 -- "for each virtual link a credit and its tick": the token bucket of the police check
 pub record Account : Type 0 where
@@ -24,6 +25,7 @@ pub record Port : Type 0 where
   -- "for each priority a queue .. and its mark": the paper's word for the high-water mark of its buffer
   pub marks : List ℕ
   pub gate : Gate
+  pub counters : Counters
 
 abbrev pub blankAccount : Account
 blankAccount = record { credit = 0; tick = 0 }
@@ -37,7 +39,7 @@ lineTick ticks ℓ = getD ticks ℓ 0
 abbrev pub markOf : Port → ℕ → ℕ
 markOf s p = getD (s .marks) p 0
 
--- "Fresh: clock, ticks and marks 0, queues empty, idle, credit B + J"
+-- "Fresh: clock, ticks and marks 0, queues empty, idle, credit B + J", and nothing counted
 abbrev pub fullAccount : VirtualLink → Account
 fullAccount v = record { credit = bag v + v .jitter; tick = 0 }
 
@@ -47,14 +49,18 @@ fresh t =
       scheduler = at 0 (replicate 8 []) idle;
       marks = replicate 8 0;
       gate = record { lineTicks = replicate (t .lines) 0; accounts = map fullAccount (t .links) };
+      counters = noneCounted (length (t .links));
     }
 
 -- ---- with one part changed
 abbrev pub withScheduler : Port → Scheduler → Port
-withScheduler s scheduler = record { scheduler = scheduler; marks = s .marks; gate = s .gate }
+withScheduler s scheduler = record { scheduler = scheduler; marks = s .marks; gate = s .gate; counters = s .counters }
 
 abbrev pub withGate : Port → Gate → Port
-withGate s g = record { scheduler = s .scheduler; marks = s .marks; gate = g }
+withGate s g = record { scheduler = s .scheduler; marks = s .marks; gate = g; counters = s .counters }
+
+abbrev pub withCounters : Port → Counters → Port
+withCounters s c = record { scheduler = s .scheduler; marks = s .marks; gate = s .gate; counters = c }
 
 -- "sets the line's tick to T"
 abbrev pub withLineTick : Gate → ℕ → ℕ → Gate

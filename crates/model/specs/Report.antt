@@ -10,7 +10,8 @@ use Rattle.model.specs.Units.{lastTick, leastLength, greatestLength, occ
 use Rattle.model.specs.Link.{VirtualLink, bag, linkAt, placeOf}
 use Rattle.model.specs.Table.{Table, sizeOf}
 use Rattle.model.specs.Machine.{Frame, Departure, queueOf, advance, queuedLast, stored, held, framesHeld}
-use Rattle.model.specs.Port.{Account, Gate, Port, accountAt, lineTick, markOf, withScheduler, withGate, withLineTick, withAccount}
+use Rattle.model.specs.Counters.{Counters, counted}
+use Rattle.model.specs.Port.{Account, Gate, Port, accountAt, lineTick, markOf, withScheduler, withGate, withCounters, withLineTick, withAccount}
 use Rattle.model.specs.Fitness.{fit}
 
 -- ---- reports and their refusals
@@ -124,6 +125,7 @@ storedIf true s p f =
       scheduler = stored (s .scheduler) p f;
       marks = set (s .marks) p (max (markOf s p) (held (queueOf (queuedLast (s .scheduler .queues) p f) p)));
       gate = s .gate;
+      counters = s .counters;
     })
     0
 
@@ -174,6 +176,11 @@ judgeReport t s (wait time) = judged s 0
 judgeReport t s (frame time line number len) =
     judge t (withGate s (withLineTick (s .gate) line time)) (arrived number len time) (admitted t line len (placeOf number (t .links)))
 
+-- "A frame of a known number on another line counts as filtered under that number": it counts by its number alone. A wait counts nothing
+unfoldable pub countedBy : Table → Report → ℕ → Counters → Counters
+countedBy t (wait time) verdict c = c
+countedBy t (frame time line number len) verdict c = counted (placeOf number (t .links)) verdict c
+
 -- "Departures go to a lent list .. three each: number, length, tick freed; the rest of the list stays"
 abbrev pub threeNumbers : Departure → List ℕ
 threeNumbers d = d .number ∷ d .length ∷ d .freed ∷ []
@@ -192,12 +199,13 @@ answered verdict departures = record { refused = 0; verdict = verdict; frames = 
 abbrev pub refusal : ℕ → Answer
 refusal n = record { refused = n; verdict = 0; frames = 0; bytes = 0 }
 
--- a report "advances", then is judged. "A refusal returns its number, .. for a report the same port and no verdict or counts, and writes to no lent buffer"
+-- a report "advances", then is judged, and counts. "A refusal returns its number, .. for a report the same port and no verdict or counts, and writes to no lent buffer"
 unfoldable pub acceptedOr : ℕ → Table → Port → Call → Stepped
 acceptedOr zero t s c =
     let a = advance (tickOf (c .report)) (s .scheduler) in
     let j = judgeReport t (withScheduler s (a .scheduler)) (c .report) in
-    record { port = j .port; answer = answered (j .verdict) (a .departures); list = listed (a .departures) (c .list) }
+    let port = withCounters (j .port) (countedBy t (c .report) (j .verdict) (j .port .counters)) in
+    record { port = port; answer = answered (j .verdict) (a .departures); list = listed (a .departures) (c .list) }
 acceptedOr (suc n) t s c = record { port = s; answer = refusal (suc n); list = c .list }
 
 unfoldable pub step : Table → Port → Call → Stepped

@@ -31,3 +31,7 @@ mostFrames = 256
 -- "exceeds 1,600,000": the wire bytes that a line carries in as many ticks, the greatest BAG
 abbrev pub lineCapacity : ℕ
 lineCapacity = 1_600_000
+
+-- "a count at 2^52 rises no more", "Fitness requires all counts to be at most 2^52"
+abbrev pub fullCount : ℕ
+fullCount = 2 ^ 52

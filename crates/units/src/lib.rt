@@ -36,6 +36,9 @@ pub const MOST_HELD: usize = 8 * MOST_FRAMES;
 
 pub const LIST_ROOM: usize = 3 * MOST_HELD;
 
+// A count of frames rises to this, 2^52, and no further.
+pub const FULL_COUNT: u64 = 4503599627370496;
+
 pub fn is_length(bytes: u64) -> bool
     ensures { λ r. ⌜ r ≡ allHold (leb leastLength bytes ∷ leb bytes greatestLength ∷ []) ⌝ }
 {
