@@ -5,8 +5,8 @@ use lib.ListN.{getD}
 use Rattle.model.specs.Counters.{Counters}
 
 -- the four numbers from a place on
-abbrev pub fourAt : List ℕ → ℕ → List ℕ
-fourAt l at = getD l at 0 ∷ getD l (at + 1) 0 ∷ getD l (at + 2) 0 ∷ getD l (at + 3) 0 ∷ []
+unfoldable pub fourAt : List ℕ → ℕ → List ℕ
+fourAt l at = getD l (at + 0) 0 ∷ getD l (at + 1) 0 ∷ getD l (at + 2) 0 ∷ getD l (at + 3) 0 ∷ []
 
 -- those of n links, one link's some numbers after those of the one before
 unfoldable pub rowsFrom : (stride at n : ℕ) → List ℕ → List (List ℕ)
