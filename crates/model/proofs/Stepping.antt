@@ -114,6 +114,18 @@ module _ (t : Table) (s : Port) (time line number len : ℕ) where
       go none e = filters
       go (some i) e = admission i e (admits (linkAt (t .links) i) line len) refl
 
+-- every verdict is one of four
+verdict-of : {t : Table} {s : Port} {time line number len : ℕ} {j : Judged} → Judgement t s time line number len j → j .verdict < 4
+unfolding storedIf
+verdict-of filters = omega arith
+verdict-of (polices i a c) = omega arith
+verdict-of (drops i a c full) = omega arith
+verdict-of (stores i a c room) = omega arith
+
+pub verdict-few : (t : Table) (s : Port) (time line number len : ℕ) → judgeReport t s (frame time line number len) .verdict < 4
+unfolding judgeReport
+verdict-few t s time line number len = verdict-of (judgement t (withGate s (withLineTick (s .gate) line time)) time line number len)
+
 -- ---- a report
 
 -- what an accepted report's checks tell: of its tick; of a frame

@@ -17,6 +17,8 @@ use Rattle.port.specs.declared.Port.{Port as PortRecord}
 use Rattle.port.specs.View.{viewPort, emptyQueue, restingPort, freshPort, blankPort}
 use Rattle.port.specs.Contracts.{freshOr, recordFresh}
 use Rattle.port.specs.Resting.{restingWith}
+use Rattle.table.proofs.Shape.{count-shown}
+use Rattle.counters.proofs.Rows.{rows-none}
 use Rattle.table.proofs.PassingRecord.{counts-pass}
 
 -- ---- what fresh gives
@@ -48,4 +50,4 @@ pub fresh-shown : (t : TableRecord) → tableRefusal (viewTable t) ≡ 0 → vie
 unfolding viewPort freshPort restingPort fresh viewTable
 fresh-shown t e =
     let few : t .count ≤ 256 = counts-pass t e .links-most in
-    rw (resting-queues 8, resting-marks 8, lines-at-rest (t .lines), accounts-at-rest t few)
+    rw (resting-queues 8, resting-marks 8, lines-at-rest (t .lines), accounts-at-rest t few, rows-none 4 0 (t .count) 1024, count-shown t)

@@ -78,7 +78,7 @@ module _ (p : PortRecord) (w : Whole p) (line len : ℕ) (k : Arrived p line len
   ticked-shown : viewPort (ticked p line) ≡ withGate (viewPort p) (withLineTick (viewPort p .gate) line (p .clock))
   unfolding viewPort
   ticked-shown =
-      ap (λ (l : List ℕ). record { scheduler = viewPort p .scheduler; marks = viewPort p .marks; gate = record { lineTicks = l; accounts = viewPort p .gate .accounts } })
+      ap (λ (l : List ℕ). record { scheduler = viewPort p .scheduler; marks = viewPort p .marks; gate = record { lineTicks = l; accounts = viewPort p .gate .accounts }; counters = viewPort p .counters })
       (entries-set 0 (p .table .lines) (p .gate .«line_ticks») line (p .clock) (omega (arith, line-in, w .lines)))
 
   module _ {x : PortRecord} (e : x ≡ ticked p line) (number : ℕ) where
@@ -89,7 +89,7 @@ module _ (p : PortRecord) (w : Whole p) (line len : ℕ) (k : Arrived p line len
     unfolding judgeReport judge viewTable
     is-filtered a =
         let nowhere : admitted (viewPortTable p) line len (placeOf number (viewLinks (p .table))) ≡ none = sym (rw e at (a .place)) in
-        rw (e, nowhere) (record { verdict = refl; port = ticked-shown; table = refl; lines-behind = drop-set-lt (p .table .lines) (p .gate .«line_ticks») line (p .clock) (k .line-in); accounts-behind = refl })
+        rw (e, nowhere) (record { verdict = refl; port = ticked-shown; table = refl; lines-behind = drop-set-lt (p .table .lines) (p .gate .«line_ticks») line (p .clock) (k .line-in); accounts-behind = refl; counts = refl })
 
     module _ (i : ℕ) (a : Admits (x .table) line number len (At i)) where
       pub let-through : LetThrough x i len
@@ -109,4 +109,5 @@ module _ (p : PortRecord) (w : Whole p) (line len : ℕ) (k : Arrived p line len
             table = t .table;
             lines-behind = t .lines-behind ∙ drop-set-lt (p .table .lines) (p .gate .«line_ticks») line (p .clock) (k .line-in);
             accounts-behind = t .accounts-behind;
+            counts = t .counts;
           })

@@ -4,7 +4,7 @@ use mathlib.Core.List.{List}
 use Prim.Native.Nat.{ℕ, zero, suc}
 use lib.ListN.{length}
 use Rattle.model.specs.Machine.{Scheduler, at, advance}
-use Rattle.model.specs.Report.{Report, wait, tickOf, reportRefusal, judgeReport, refusal, acceptedOr, step, Stepped}
+use Rattle.model.specs.Report.{Report, wait, tickOf, reportRefusal, judgeReport, countedBy, refusal, acceptedOr, step, Stepped}
 use Rattle.model.proofs.QueueSteps.{advance-clock}
 use Rattle.model.proofs.Stepping.{Timely, movedTo}
 use Rattle.model.proofs.Fitness.{fit-is}
@@ -37,7 +37,7 @@ arrivedAt p time m =
       verdict = 0;
       frames = m .frames;
       bytes = m .bytes;
-      port = record { table = p .table; clock = time; queues = m .queues; sender = m .sender; gate = p .gate };
+      port = record { table = p .table; clock = time; queues = m .queues; sender = m .sender; gate = p .gate; counts = p .counts; unknown = p .unknown };
     }
 
 module _ (p : PortRecord) (time room : ℕ) (ok : NotRefused p (wait time) room) where
@@ -65,11 +65,11 @@ module _ (p : PortRecord) (time : ℕ) {before after : List ℕ} {m : Moved} (ok
   moved : viewPort (arrivedAt p time m .port) ≡ movedTo (viewPort p) time
   unfolding viewPort
   moved =
-      ap (λ (s : Scheduler). record { scheduler = s; marks = viewMarks (m .queues); gate = viewGate (p .table) (p .gate) }) there
-      ∙ ap (λ (marks : List ℕ). record { scheduler = advance time here .scheduler; marks = marks; gate = viewGate (p .table) (p .gate) }) (moves .marks)
+      ap (λ (s : Scheduler). record { scheduler = s; marks = viewMarks (m .queues); gate = viewGate (p .table) (p .gate); counters = viewPort p .counters }) there
+      ∙ ap (λ (marks : List ℕ). record { scheduler = advance time here .scheduler; marks = marks; gate = viewGate (p .table) (p .gate); counters = viewPort p .counters }) (moves .marks)
 
   pub reaches : Reached p time before after (arrivedAt p time m)
-  unfolding acceptedOr judgeReport tickOf viewPort
+  unfolding acceptedOr judgeReport countedBy tickOf viewPort
   reaches =
       let e = accepts p (wait time) before ok in
       record {
@@ -86,6 +86,7 @@ module _ (p : PortRecord) (time : ℕ) {before after : List ℕ} {m : Moved} (ok
               table = refl;
               lines-behind = refl;
               accounts-behind = refl;
+              counts-behind = refl;
             };
         clock = refl;
       }
@@ -107,6 +108,7 @@ module _ (p : PortRecord) (r : Report) where
         table = refl;
         lines-behind = refl;
         accounts-behind = refl;
+        counts-behind = refl;
       }
     where
       go : (k : ℕ) → (k ≡ 0 → ⊥) → _≡_ {A = Stepped} (record { port = viewPort p; answer = refusal k; list = before }) (acceptedOr k (viewPortTable p) (viewPort p) (record { report = r; list = before }))

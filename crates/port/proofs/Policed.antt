@@ -62,6 +62,7 @@ module _ (p : PortRecord) (w : Whole p) (i len : ℕ) (k : LetThrough p i len) w
         table = refl;
         lines-behind = refl;
         accounts-behind = refl;
+        counts = refl;
       })
 
   -- ---- the police check
@@ -89,7 +90,7 @@ module _ (p : PortRecord) (w : Whole p) (i len : ℕ) (k : LetThrough p i len) w
     charged-shown : viewPort (charged .port) ≡ withGate (viewPort p) (policed .gate)
     unfolding viewPort policeAt
     charged-shown =
-        ap (λ (l : List Account). record { scheduler = viewPort p .scheduler; marks = viewPort p .marks; gate = record { lineTicks = viewPort p .gate .lineTicks; accounts = l } }) accounts-are
+        ap (λ (l : List Account). record { scheduler = viewPort p .scheduler; marks = viewPort p .marks; gate = record { lineTicks = viewPort p .gate .lineTicks; accounts = l }; counters = viewPort p .counters }) accounts-are
 
     behind : drop (p .table .count) (charged .port .gate .accounts) ≡ drop (p .table .count) (p .gate .accounts)
     behind = drop-set-lt (p .table .count) (p .gate .accounts) i _ (k .place)
@@ -104,7 +105,7 @@ module _ (p : PortRecord) (w : Whole p) (i len : ℕ) (k : LetThrough p i len) w
       pub is-policed : x .passed ≡ false → Polices p i len (record { verdict = 2; port = x .port })
       unfolding passedIf
       is-policed e =
-          rw (charges, by-police false (sym passed-is ∙ (rw charges at e))) (record { verdict = refl; port = charged-shown; table = refl; lines-behind = refl; accounts-behind = behind })
+          rw (charges, by-police false (sym passed-is ∙ (rw charges at e))) (record { verdict = refl; port = charged-shown; table = refl; lines-behind = refl; accounts-behind = behind; counts = refl })
 
       -- the port in which it was charged is as the one before it for the store
       pub still-let : LetThrough (x .port) i len
@@ -114,4 +115,4 @@ module _ (p : PortRecord) (w : Whole p) (i len : ℕ) (k : LetThrough p i len) w
       unfolding passedIf
       is-passed e s =
           let t = rw (charges, charged-shown) at s in
-          rw (by-police true (sym passed-is ∙ (rw charges at e))) (record { verdict = t .verdict; port = t .port; table = t .table; lines-behind = t .lines-behind; accounts-behind = t .accounts-behind ∙ behind })
+          rw (by-police true (sym passed-is ∙ (rw charges at e))) (record { verdict = t .verdict; port = t .port; table = t .table; lines-behind = t .lines-behind; accounts-behind = t .accounts-behind ∙ behind; counts = t .counts })

@@ -19,7 +19,7 @@ use Rattle.port.specs.declared.Port.{Port as PortRecord}
 use Rattle.port.specs.View.{viewPortTable, viewPort}
 use Rattle.port.proofs.Whole.{Whole}
 
-module _ (p : PortRecord) {x : Fitness} (tested : x ≡ portFitness (p .table) (p .clock) (p .queues) (p .sender) (p .gate)) where
+module _ (p : PortRecord) {x : Fitness} (tested : x ≡ portFitness (p .table) (p .clock) (p .queues) (p .sender) (p .gate) (p .counts) (p .unknown)) where
   pub fits-is : x .fits ≡ fit (viewPortTable p) (viewPort p)
   unfolding viewPort
   fits-is = ap (λ (f : Fitness). f .fits) tested

@@ -23,7 +23,7 @@ use Rattle.model.proofs.Lists.{map-set}
 
 -- the port with those queues, and all else as it is
 abbrev pub withQueues : PortRecord → List Queue → PortRecord
-withQueues p queues = record { table = p .table; clock = p .clock; queues = queues; sender = p .sender; gate = p .gate }
+withQueues p queues = record { table = p .table; clock = p .clock; queues = queues; sender = p .sender; gate = p .gate; counts = p .counts; unknown = p .unknown }
 
 module _ (p : PortRecord) (k : ℕ) (eight : length (p .queues) ≡ 8) (below : k < 8) (f : FrameRecord) where
   abbrev qs : List Queue

@@ -17,6 +17,7 @@ pub record Whole (p : PortRecord) : Type 0 where
   pub queues : length (p .queues) ≡ 8
   pub lines : length (p .gate .«line_ticks») ≡ 24
   pub accounts : length (p .gate .accounts) ≡ 256
+  pub counts : length (p .counts) ≡ 1024
 
 pub whole : (p : PortRecord) (vs : List Val) → Is (row the-type) p vs → Whole p
 whole p vs s =
@@ -26,4 +27,5 @@ whole p vs s =
       queues = sym (length-map (p .queues) (queue-field .into)) ∙ s .1 .1 .1 .1 .0 .1 .0 .1;
       lines = sym (length-map (p .gate .«line_ticks») (u64-field .into)) ∙ gate .1 .1 .0 .1 .0 .1;
       accounts = sym (length-map (p .gate .accounts) (account-field .into)) ∙ gate .1 .1 .1 .0 .1 .0 .1;
+      counts = sym (length-map (p .counts) (u64-field .into)) ∙ s .1 .1 .1 .1 .1 .1 .1 .0 .1 .0 .1;
     }

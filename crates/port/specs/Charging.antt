@@ -15,7 +15,7 @@ abbrev pub gateWith : GateRecord → List AccountRecord → GateRecord
 gateWith g accounts = record { «line_ticks» = g .«line_ticks»; accounts = accounts }
 
 abbrev pub portWith : PortRecord → GateRecord → PortRecord
-portWith p gate = record { table = p .table; clock = p .clock; queues = p .queues; sender = p .sender; gate = gate }
+portWith p gate = record { table = p .table; clock = p .clock; queues = p .queues; sender = p .sender; gate = gate; counts = p .counts; unknown = p .unknown }
 
 -- the account at a place, as the check leaves it, and no other touched
 abbrev pub chargedAt : PortRecord → ℕ → Checked → Charged

@@ -1,7 +1,7 @@
 -- What the calls promise.
 use mathlib.Core.Path.{_≡_}
 use mathlib.Core.List.{List}
-use Prim.Native.Nat.{ℕ, zero, suc}
+use Prim.Native.Nat.{ℕ, zero, suc, _*_}
 use lib.ListN.{drop}
 use Rattle.model.specs.Table.{tableRefusal}
 use Rattle.model.specs.Report.{Report, Stepped, step}
@@ -37,3 +37,4 @@ pub record Answered (p : PortRecord) (r : Report) (before after : List ℕ) (a :
   pub table : a .port .table ≡ p .table
   pub lines-behind : drop (p .table .lines) (a .port .gate .«line_ticks») ≡ drop (p .table .lines) (p .gate .«line_ticks»)
   pub accounts-behind : drop (p .table .count) (a .port .gate .accounts) ≡ drop (p .table .count) (p .gate .accounts)
+  pub counts-behind : drop (4 * p .table .count) (a .port .counts) ≡ drop (4 * p .table .count) (p .counts)

@@ -39,13 +39,14 @@ pub record LetThrough (p : PortRecord) (i len : ℕ) : Type 0 where
 abbrev pub linkOf : PortRecord → ℕ → VirtualLink
 linkOf p i = linkAt (viewLinks (p .table)) i
 
--- verdict and port are the model's; the table stays, and so does what stands behind its counts
+-- verdict and port are the model's; the table stays, and so do what stands behind its counts, and the counts of frames
 pub record Gives (p : PortRecord) (j : Judged) (r : JudgedRecord) : Type 0 where
   pub verdict : r .verdict ≡ j .verdict
   pub port : viewPort (r .port) ≡ j .port
   pub table : r .port .table ≡ p .table
   pub lines-behind : drop (p .table .lines) (r .port .gate .«line_ticks») ≡ drop (p .table .lines) (p .gate .«line_ticks»)
   pub accounts-behind : drop (p .table .count) (r .port .gate .accounts) ≡ drop (p .table .count) (p .gate .accounts)
+  pub counts : r .port .counts ≡ p .counts
 
 -- of a frame of the link at place i that passed the police check; of one that the filter lets through; of any frame
 abbrev pub Stores : PortRecord → ℕ → ℕ → JudgedRecord → Type 0

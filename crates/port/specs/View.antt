@@ -19,13 +19,13 @@ abbrev pub viewPortTable : PortRecord → Table
 viewPortTable p = viewTable (p .table)
 
 unfoldable pub viewPort : PortRecord → Port
-viewPort p = viewParts (p .table) (p .clock) (p .queues) (p .sender) (p .gate)
+viewPort p = viewParts (p .table) (p .clock) (p .queues) (p .sender) (p .gate) (p .counts) (p .unknown)
 
 -- ---- the fresh record
 abbrev pub emptyQueue : Queue
 emptyQueue = record { count = 0; mark = 0; frames = replicate mostFrames blankEntry }
 
--- a record with nothing held, and these accounts before blank ones
+-- a record with nothing held and nothing counted, and these accounts before blank ones
 unfoldable pub restingPort : TableRecord → List Account → PortRecord
 restingPort t accounts =
     record {
@@ -34,6 +34,8 @@ restingPort t accounts =
       queues = replicate 8 emptyQueue;
       sender = Idle;
       gate = record { «line_ticks» = replicate 24 0; accounts = entries (recordAccount blankAccount) 256 (map recordAccount accounts) };
+      counts = replicate 1024 0;
+      unknown = 0;
     }
 
 unfoldable pub freshPort : TableRecord → PortRecord

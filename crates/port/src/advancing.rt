@@ -22,6 +22,7 @@ fn advanced(p: Port, time: u64, list: &mut [u64]) -> Answer
     let queues = moved.queues;
     let sender = moved.sender;
     let gate = p.gate;
+    let counts = p.counts;
     Answer {
         refused: 0,
         verdict: 0,
@@ -33,6 +34,8 @@ fn advanced(p: Port, time: u64, list: &mut [u64]) -> Answer
             queues,
             sender,
             gate,
+            counts,
+            unknown: p.unknown,
         },
     }
 }

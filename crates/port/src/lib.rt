@@ -1,6 +1,7 @@
 // An output port: the fresh port, frame and wait reports.
 mod advancing;
 mod charging;
+mod counting;
 mod judging;
 mod refusals;
 mod reports;
@@ -20,6 +21,9 @@ pub struct Port {
     pub queues: [Queue; 8],
     pub sender: Sender,
     pub gate: Gate,
+    // How many frames of the link at place i were given verdict v, at 4 * i + v; and how many had an unknown number.
+    pub counts: [u64; 1024],
+    pub unknown: u64,
 }
 
 // 0 or the number of the refusal; the verdict (0 for a wait), frames and bytes freed, all 0 with a refusal;

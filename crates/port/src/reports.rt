@@ -1,7 +1,8 @@
-// Reports to any record: refused, or advanced, and a frame then judged.
+// Reports to any record: refused, or advanced, and a frame then judged and counted.
 use crate::Answer;
 use crate::Port;
 use crate::advancing;
+use crate::counting;
 use crate::judging;
 use port_refusals::Report;
 ghost use Rattle.model.specs.Report.{frame as frameReport, wait as waitReport};
@@ -29,7 +30,8 @@ pub(crate) fn frame(
     }
     let reached = a.port;
     let j = judging::judge(reached, line, number, length);
-    let port = j.port;
+    let judged = j.port;
+    let port = counting::counted(judged, number, j.verdict);
     Answer {
         refused: 0,
         verdict: j.verdict,

@@ -12,7 +12,7 @@ ghost use mathlib.Core.Path.{_≡_};
 ghost use Rattle.port.specs.Contracts.{recordFresh};
 ghost use Rattle.port.specs.Resting.{restingWith};
 
-// A port with nothing held, at clock 0.
+// A port with nothing held and nothing counted, at clock 0.
 fn resting_with(table: Table, accounts: [Account; 256]) -> Port
     ensures { λ r. ⌜ r ≡ restingWith table accounts ⌝ }
 {
@@ -35,6 +35,8 @@ fn resting_with(table: Table, accounts: [Account; 256]) -> Port
             line_ticks: [0u64; 24],
             accounts,
         },
+        counts: [0u64; 1024],
+        unknown: 0,
     }
 }
 

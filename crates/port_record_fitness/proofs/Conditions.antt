@@ -7,9 +7,10 @@ use lib.Dec.{leb}
 use borrow.Author.Tests.{eq-eqb, eqb-true, ne-eqb}
 use lib.ListN.{length, getD}
 use Rattle.model.specs.Basics.{provided, allTo, allHold}
-use Rattle.model.specs.Units.{lastTick, mostFrames}
+use Rattle.model.specs.Units.{lastTick, mostFrames, fullCount}
 use Rattle.model.specs.Table.{tableRefusal}
 use Rattle.model.specs.Machine.{queueOf, held, framesHeld}
+use Rattle.model.specs.Counters.{everyCount}
 use Rattle.model.specs.Fitness.{framesFit, senderFit, fit}
 use Rattle.model.proofs.Checks.{AllTrue, all-true, true-all}
 use Rattle.table.specs.declared.Table.{Table as TableRecord}
@@ -19,6 +20,7 @@ use Rattle.port_policing.specs.declared.Gate.{Gate as GateRecord}
 use Rattle.port_scheduler.specs.declared.Queue.{Queue}
 use Rattle.port_scheduler.specs.declared.Sender.{Sender as SenderRecord}
 use Rattle.port_scheduler.specs.View.{viewQueues, viewMarks, viewSender}
+use Rattle.counters.specs.View.{viewCounts}
 use Rattle.port_fitness.specs.Conditions.{linesFit, ticksFit, creditsFit}
 use Rattle.port_fitness.proofs.All.{same-truth, all-four, any-false}
 use Rattle.port_queue_fitness.specs.declared.Fitness.{Fitness}
@@ -26,20 +28,20 @@ use Rattle.port_queue_fitness.specs.Queues.{queuesFit, fitnessIf, queuesFitness
 use Rattle.port_record_fitness.specs.View.{viewParts}
 use Rattle.port_record_fitness.specs.Fitness.{tableFits, portFitness}
 
--- ten conditions are four: those on table and clock are one, those on queues and sender, and those on accounts
-grouped : (a b c d e f g h i j q : Bool) → q ≡ allHold (c ∷ d ∷ e ∷ f ∷ []) →
-    allHold (a ∷ b ∷ c ∷ d ∷ e ∷ f ∷ g ∷ h ∷ i ∷ j ∷ []) ≡ allHold (allHold (a ∷ b ∷ []) ∷ allHold (q ∷ j ∷ []) ∷ g ∷ allHold (h ∷ i ∷ []) ∷ [])
-grouped a b c d e f g h i j q x =
+-- eleven conditions are five: those on table and clock are one, those on queues and sender, and those on accounts
+grouped : (a b c d e f g h i j n q : Bool) → q ≡ allHold (c ∷ d ∷ e ∷ f ∷ []) →
+    allHold (a ∷ b ∷ c ∷ d ∷ e ∷ f ∷ g ∷ h ∷ i ∷ j ∷ n ∷ []) ≡ allHold (allHold (a ∷ b ∷ []) ∷ allHold (q ∷ j ∷ []) ∷ g ∷ allHold (h ∷ i ∷ []) ∷ n ∷ [])
+grouped a b c d e f g h i j n q x =
     same-truth _ _
-    (λ (y : allHold (a ∷ b ∷ c ∷ d ∷ e ∷ f ∷ g ∷ h ∷ i ∷ j ∷ []) ≡ true).
+    (λ (y : allHold (a ∷ b ∷ c ∷ d ∷ e ∷ f ∷ g ∷ h ∷ i ∷ j ∷ n ∷ []) ≡ true).
     let all = all-true _ y in
     let four = true-all (c ∷ d ∷ e ∷ f ∷ []) (all .1 .1 .0, (all .1 .1 .1 .0, (all .1 .1 .1 .1 .0, (all .1 .1 .1 .1 .1 .0, tt)))) in
     let rest = all .1 .1 .1 .1 .1 .1 in
     true-all _ (
       true-all _ (all .0, (all .1 .0, tt)),
-      (true-all _ (x ∙ four, (rest .1 .1 .1 .0, tt)), (rest .0, (true-all _ (rest .1 .0, (rest .1 .1 .0, tt)), tt))),
+      (true-all _ (x ∙ four, (rest .1 .1 .1 .0, tt)), (rest .0, (true-all _ (rest .1 .0, (rest .1 .1 .0, tt)), (rest .1 .1 .1 .1 .0, tt)))),
     ))
-    (λ (y : allHold (allHold (a ∷ b ∷ []) ∷ allHold (q ∷ j ∷ []) ∷ g ∷ allHold (h ∷ i ∷ []) ∷ []) ≡ true).
+    (λ (y : allHold (allHold (a ∷ b ∷ []) ∷ allHold (q ∷ j ∷ []) ∷ g ∷ allHold (h ∷ i ∷ []) ∷ n ∷ []) ≡ true).
     let all = all-true _ y in
     let first = all-true (a ∷ b ∷ []) (all .0) in
     let queued = all-true (q ∷ j ∷ []) (all .1 .0) in
@@ -47,7 +49,7 @@ grouped a b c d e f g h i j q x =
     let two = all-true (h ∷ i ∷ []) (all .1 .1 .1 .0) in
     true-all _ (
       first .0,
-      (first .1 .0, (four .0, (four .1 .0, (four .1 .1 .0, (four .1 .1 .1 .0, (all .1 .1 .0, (two .0, (two .1 .0, (queued .1 .0, tt))))))))),
+      (first .1 .0, (four .0, (four .1 .0, (four .1 .1 .0, (four .1 .1 .1 .0, (all .1 .1 .0, (two .0, (two .1 .0, (queued .1 .0, (all .1 .1 .1 .1 .0, tt)))))))))),
     ))
 
 queues-parts : (t : TableRecord) (clock : ℕ) (queues : List Queue) →
@@ -81,9 +83,9 @@ module _ (refused clock : ℕ) where
   table-passes e = eqb-true refused 0 (all-true _ e .0)
 
 -- ---- the whole
-module _ (t : TableRecord) (clock : ℕ) (queues : List Queue) (sender : SenderRecord) (gate : GateRecord) where
+module _ (t : TableRecord) (clock : ℕ) (queues : List Queue) (sender : SenderRecord) (gate : GateRecord) (counts : List ℕ) (unknown : ℕ) where
   abbrev fits : Bool
-  fits = fit (viewTable t) (viewParts t clock queues sender gate)
+  fits = fit (viewTable t) (viewParts t clock queues sender gate counts unknown)
 
   abbrev conditions : List Bool
   conditions =
@@ -91,17 +93,18 @@ module _ (t : TableRecord) (clock : ℕ) (queues : List Queue) (sender : SenderR
       ∷ allHold (queuesFit t clock queues ∷ senderFit clock (viewQueues queues) (viewSender sender) ∷ [])
       ∷ linesFit (gate .«line_ticks») (t .lines) clock
       ∷ allHold (ticksFit (gate .accounts) (t .count) clock ∷ creditsFit (gate .accounts) t ∷ [])
+      ∷ everyCount (λ count. leb count fullCount) (t .count) (viewCounts (t .count) counts unknown)
       ∷ []
 
   fit-shown : fits ≡ allHold conditions
   unfolding fit viewTable
-  fit-shown = rw (count-shown t) (grouped _ _ _ _ _ _ _ _ _ _ _ (queues-parts t clock queues))
+  fit-shown = rw (count-shown t) (grouped _ _ _ _ _ _ _ _ _ _ _ _ (queues-parts t clock queues))
 
   -- the i-th condition fails
-  pub is-unfit : (i : ℕ) {r : Fitness} → r ≡ record { fits = false; frames = 0 } → getD conditions i true ≡ false → r ≡ portFitness t clock queues sender gate
+  pub is-unfit : (i : ℕ) {r : Fitness} → r ≡ record { fits = false; frames = 0 } → getD conditions i true ≡ false → r ≡ portFitness t clock queues sender gate counts unknown
   unfolding provided
   is-unfit i e x = e ∙ ap (λ (b : Bool). fitnessIf b (framesHeld (viewQueues queues))) (any-false conditions i x ∙ sym fit-shown)
 
   -- all hold, that on the queues as it was told
-  pub is-fit : {q : Fitness} → q ≡ queuesFitness t clock queues sender → AllTrue conditions → q ≡ portFitness t clock queues sender gate
+  pub is-fit : {q : Fitness} → q ≡ queuesFitness t clock queues sender → AllTrue conditions → q ≡ portFitness t clock queues sender gate counts unknown
   is-fit told all = told ∙ ap (λ (b : Bool). fitnessIf b (framesHeld (viewQueues queues))) (all .1 .0 ∙ sym (fit-shown ∙ true-all conditions all))

@@ -22,5 +22,6 @@ abbrev pub tableFits : ℕ → ℕ → Bool
 tableFits refused clock = allHold (eqb refused 0 ∷ leb clock lastTick ∷ [])
 
 -- whether the record of these parts is fit, and the frames held if so, else 0
-abbrev pub portFitness : TableRecord → ℕ → List Queue → SenderRecord → GateRecord → Fitness
-portFitness t clock queues sender gate = fitnessIf (fit (viewTable t) (viewParts t clock queues sender gate)) (framesHeld (viewQueues queues))
+abbrev pub portFitness : TableRecord → ℕ → List Queue → SenderRecord → GateRecord → List ℕ → ℕ → Fitness
+portFitness t clock queues sender gate counts unknown =
+    fitnessIf (fit (viewTable t) (viewParts t clock queues sender gate counts unknown)) (framesHeld (viewQueues queues))

@@ -9,7 +9,13 @@ use Rattle.port_policing.specs.Gate.{viewGate}
 use Rattle.port_scheduler.specs.declared.Queue.{Queue}
 use Rattle.port_scheduler.specs.declared.Sender.{Sender as SenderRecord}
 use Rattle.port_scheduler.specs.View.{viewQueues, viewMarks, viewSender}
+use Rattle.counters.specs.View.{viewCounts}
 
-abbrev pub viewParts : TableRecord → ℕ → List Queue → SenderRecord → GateRecord → Port
-viewParts t clock queues sender gate =
-    record { scheduler = at clock (viewQueues queues) (viewSender sender); marks = viewMarks queues; gate = viewGate t gate }
+abbrev pub viewParts : TableRecord → ℕ → List Queue → SenderRecord → GateRecord → List ℕ → ℕ → Port
+viewParts t clock queues sender gate counts unknown =
+    record {
+      scheduler = at clock (viewQueues queues) (viewSender sender);
+      marks = viewMarks queues;
+      gate = viewGate t gate;
+      counters = viewCounts (t .count) counts unknown;
+    }

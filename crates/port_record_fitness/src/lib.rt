@@ -6,6 +6,7 @@ use port_scheduler::Sender;
 use table::Table;
 use units::LAST_TICK;
 ghost use mathlib.Core.Path.{_≡_};
+ghost use lib.ListN.{length};
 ghost use Rattle.port_record_fitness.specs.Fitness.{tableFits, portFitness};
 
 // The table passes its own checks, 3 to 6 and 23, and the clock is not past the last tick.
@@ -19,8 +20,17 @@ fn table_fits(refused: u32, clock: u64) -> bool
 }
 
 // Whether the record of these parts is fit, condition by condition, and how many frames it holds, if it is.
-pub fn fit(t: Table, clock: u64, queues: [Queue; 8], sender: Sender, gate: Gate) -> Fitness
-    ensures { λ r. ⌜ r ≡ portFitness t clock queues sender gate ⌝ }
+pub fn fit(
+    t: Table,
+    clock: u64,
+    queues: [Queue; 8],
+    sender: Sender,
+    gate: Gate,
+    counts: &[u64],
+    unknown: u64,
+) -> Fitness
+    requires { ⌜ length (now counts) ≡ 1024 ⌝ }
+    ensures { λ r. ⌜ r ≡ portFitness t clock queues sender gate (now (counts .entry)) unknown ⌝ }
 {
     if !table_fits(table::check(t), clock) {
         return port_queue_fitness::unfit();
@@ -35,6 +45,9 @@ pub fn fit(t: Table, clock: u64, queues: [Queue; 8], sender: Sender, gate: Gate)
     }
     let accounts = gate.accounts;
     if !port_fitness::accounts_fit(accounts, t, clock) {
+        return port_queue_fitness::unfit();
+    }
+    if !counters::fit(counts, unknown, t.count) {
         return port_queue_fitness::unfit();
     }
     queued

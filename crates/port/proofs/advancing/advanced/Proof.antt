@@ -11,7 +11,7 @@ same-length : tie.Need-same-length
 same-length c = search needs
 
 returns : tie.Need-returns
-returns c = let s = c .before .before .before .before .before .before .before .before .before in reaches (s .args .p) (s .args .time) (s .pre) (c .before .before .before .before .before .advance .ensures)
+returns c = let s = c .before .before .before .before .before .before .before .before .before .before in reaches (s .args .p) (s .args .time) (s .pre) (c .before .before .before .before .before .before .advance .ensures)
 
 pub advanced-spec : {M : Type 1} → statement M
 advanced-spec = tie.close (tie.spec advance-requires same-length returns)

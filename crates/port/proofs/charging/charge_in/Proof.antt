@@ -136,7 +136,8 @@ module _ {M : Type 1} (𝓤 : URA M) (H : Heap 𝓤) (A : Atoms 𝓤) (W : Given
       (vcons (vint w64 (d .clock))
       (vcons (vstruct (ofList (map Queue′.lowered (d .queues))))
       (vcons (Sender′.lowered (d .sender))
-      (vcons (vstruct (vcons (vstruct (ofList (map (λ (n : ℕ). vint w64 n) (g .«line_ticks»)))) (vcons u vnil))) vnil)))))
+      (vcons (vstruct (vcons (vstruct (ofList (map (λ (n : ℕ). vint w64 n) (g .«line_ticks»)))) (vcons u vnil)))
+      (vcons (vstruct (ofList (map (λ (n : ℕ). vint w64 n) (d .counts)))) (vcons (vint w64 (d .unknown)) vnil)))))))
 
   -- what is said of the account y and the flag r
   abbrev Said : Account → Bool → Type 0
@@ -160,10 +161,10 @@ module _ {M : Type 1} (𝓤 : URA M) (H : Heap 𝓤) (A : Atoms 𝓤) (W : Given
   )
 
   port-at : (ys : List Account) (p : Is P.the-row d (P′.lowered d ∷ [])) (us : List Val) → Is G.the-row (gateWith g ys) us
-      → Is P.the-row (with ys) (vstruct (ofList (p .0 .0 ++ (p .0 .1 .0 ++ (p .0 .1 .1 .0 ++ (p .0 .1 .1 .1 .0 ++ (us ++ [])))))) ∷ [])
+      → Is P.the-row (with ys) (vstruct (ofList (p .0 .0 ++ (p .0 .1 .0 ++ (p .0 .1 .1 .0 ++ (p .0 .1 .1 .1 .0 ++ (us ++ (p .0 .1 .1 .1 .1 .1 .0 ++ (p .0 .1 .1 .1 .1 .1 .1 .0 ++ [])))))))) ∷ [])
   port-at ys p us q = (
-    (p .0 .0, (p .0 .1 .0, (p .0 .1 .1 .0, (p .0 .1 .1 .1 .0, (us, tt))))),
-    (refl, (p .1 .1 .0, (p .1 .1 .1 .0, (p .1 .1 .1 .1 .0, (p .1 .1 .1 .1 .1 .0, (q, tt)))))),
+    (p .0 .0, (p .0 .1 .0, (p .0 .1 .1 .0, (p .0 .1 .1 .1 .0, (us, (p .0 .1 .1 .1 .1 .1 .0, (p .0 .1 .1 .1 .1 .1 .1 .0, tt))))))),
+    (refl, (p .1 .1 .0, (p .1 .1 .1 .0, (p .1 .1 .1 .1 .0, (p .1 .1 .1 .1 .1 .0, (q, (p .1 .1 .1 .1 .1 .1 .1 .0, (p .1 .1 .1 .1 .1 .1 .1 .1 .0, tt)))))))),
   )
 
   port-is : (ys : List Account) → Is P.the-row d (P′.lowered d ∷ []) → Is Rs ys (array-vals vals ys) → Is P.the-row (with ys) (P′.lowered (with ys) ∷ [])
