@@ -92,7 +92,7 @@ step-counts t s list k (waits time timely) = k
 step-counts t s list k (frames time line number len timely arrives j) =
     counted-fit (placeOf number (t .links)) _ (rw (judged-counters t (reached s time line) time line number len j) k)
 
-none-at : (n i v : ℕ) → countAt (noneCounted n) i v ≡ 0
+pub none-at : (n i v : ℕ) → countAt (noneCounted n) i v ≡ 0
 none-at zero i v = refl
 none-at (suc n) zero v = zeros verdicts v
   where

@@ -48,6 +48,7 @@ pub mod Log
 pub mod Invariant
 pub mod Fitness
 pub mod FitKept
+pub mod Counts
 -- ---- demand 3, and what the next switch on the way may count on
 pub mod Paying
 pub mod Levels

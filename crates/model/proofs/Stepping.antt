@@ -115,7 +115,7 @@ module _ (t : Table) (s : Port) (time line number len : ℕ) where
       go (some i) e = admission i e (admits (linkAt (t .links) i) line len) refl
 
 -- every verdict is one of four
-verdict-of : {t : Table} {s : Port} {time line number len : ℕ} {j : Judged} → Judgement t s time line number len j → j .verdict < 4
+pub verdict-of : {t : Table} {s : Port} {time line number len : ℕ} {j : Judged} → Judgement t s time line number len j → j .verdict < 4
 unfolding storedIf
 verdict-of filters = omega arith
 verdict-of (polices i a c) = omega arith

@@ -11,6 +11,7 @@ pub mod Machine
 pub mod Counters
 pub mod Port
 pub mod Fitness
+pub mod Sums
 pub mod Report
 pub mod Sheet
 pub mod NextTable

@@ -7,8 +7,8 @@ use Prim.Native.Nat.{ℕ, _+_, _-_, _%_, _^_, _≤_, _<_}
 use lib.Dec.{eqb, leb}
 use lib.ListN.{length, getD}
 use Rattle.model.specs.Basics.{eight, allTo, Check, check, firstMet}
-use Rattle.model.specs.Units.{lineCapacity}
-use Rattle.model.specs.Link.{VirtualLink, bagOf, standardBags, linkAt, anyOf, sumOver}
+use Rattle.model.specs.Units.{lineCapacity, fullCount}
+use Rattle.model.specs.Link.{VirtualLink, bagOf, standardBags, linkAt, placeOf, anyOf, sumOver}
 use Rattle.model.specs.Table.{Table, countChecks, linksChecks, reservation, noneOversold, lineChecks, sizeChecks, tableRefusal}
 use Rattle.model.specs.Digits.{digitsOf, fromDigits, AllDigits}
 use Rattle.model.specs.TableFile.{tableBytes, readTable, fileLength}
@@ -16,10 +16,12 @@ use Rattle.model.specs.Arrival.{arrivalCurve}
 use Rattle.model.specs.Bounds.{ofPriority, upArrivals, blocking, holdBy, holdOf, backlog, isThere, boundsRefusal, hold, bound, window}
 use Rattle.model.specs.NextTable.{nextLinks}
 use Rattle.model.specs.Machine.{Frame, Departure, advance, framesHeld}
+use Rattle.model.specs.Counters.{verdicts, countAt, linkSums}
 use Rattle.model.specs.Port.{Port}
 use Rattle.model.specs.Fitness.{fit}
+use Rattle.model.specs.Sums.{sums}
 use Rattle.model.specs.Report.{Call, step}
-use Rattle.model.specs.Run.{Entry, run, passedBy, departuresBy, without, heldFrames, hasPriority, ticksOf, KeepBagAndJitter, Always, Demand3}
+use Rattle.model.specs.Run.{Entry, History, run, framesReported, passedBy, departuresBy, without, heldFrames, hasPriority, ticksOf, KeepBagAndJitter, Always, Demand3}
 use Rattle.model.specs.Batch.{Turn, runTurns}
 use Rattle.model.specs.Redundancy.{State, Presented, among, select, entryOf, handsOn, howMany, Refused, Copies, Selected}
 use Rattle.model.specs.Redundancy as redundancy
@@ -62,6 +64,25 @@ LengthsKept = (t : Table) (s : Port) (c : Call)
     → (length (step t s c .port .marks) ≡ length (s .marks))
     × (length (step t s c .port .gate .lineTicks) ≡ length (s .gate .lineTicks))
     × (length (step t s c .port .gate .accounts) ≡ length (s .gate .accounts))
+
+-- ---- counts
+
+-- of a history: "each count is the number of accepted frame reports it stands for", by reports and answers alone; "none reaches 2^52, and
+-- the grand total is the number of all of them"
+pub record CountsStand (t : Table) (h : History) : Type 0 where
+  -- of the link's number, with that verdict
+  pub each : (i verdict : ℕ) → i < length (t .links) → verdict < verdicts
+      → countAt (h .port .counters) i verdict ≡ framesReported (λ number given. eqb number (linkAt (t .links) i .number) && eqb given verdict) (h .log)
+  -- of a number that no link has
+  pub unknown : h .port .counters .unknown ≡ framesReported (λ number given. not (isThere (placeOf number (t .links)))) (h .log)
+  pub below : (i verdict : ℕ) → i < length (t .links) → verdict < verdicts → countAt (h .port .counters) i verdict < fullCount
+  pub unknown-below : h .port .counters .unknown < fullCount
+  pub adds-up : sums t (h .port)
+      ≡ record { refused = 0; sums = linkSums (length (t .links)) (h .port .counters); hasTotal = true; total = framesReported (λ number given. true) (h .log) }
+
+-- "For every list of reports from a fresh port"
+abbrev pub CountsAddUp : Type 0
+CountsAddUp = (t : Table) → tableRefusal t ≡ 0 → (calls : List Call) → CountsStand t (run t calls)
 
 -- ---- batches
 

@@ -6,7 +6,7 @@ use mathlib.Core.List.{List, [], _∷_, _++_}
 use Prim.Native.Nat.{ℕ, zero, suc, _+_, _*_, _≤_, _<_, max}
 use lib.Dec.{eqb}
 use lib.ListN.{length, getD, drop}
-use Rattle.model.specs.Basics.{Each}
+use Rattle.model.specs.Basics.{provided, Each}
 use Rattle.model.specs.Link.{VirtualLink, bag, linkAt, placeOf}
 use Rattle.model.specs.Table.{Table, sizeOf}
 use Rattle.model.specs.Bounds.{hold, bound}
@@ -124,6 +124,16 @@ KeepBagAndJitter v ticks = (i j : ℕ) → 1 ≤ j → i + j < length ticks → 
 -- "A link keeps BAG and jitter if its frames in accepted reports that the filter lets through" do
 abbrev pub LinkKeeps : VirtualLink → List Entry → Type 0
 LinkKeeps v log = KeepBagAndJitter v (ticksOf throughBy (v .number) log)
+
+-- an accepted frame report whose number and verdict are meant
+unfoldable pub reportsFrame : (ℕ → ℕ → Bool) → Report → Answer → Bool
+reportsFrame meant (wait time) a = false
+reportsFrame meant (frame time line number len) a = accepted a && meant number (a .verdict)
+
+-- how many there are
+unfoldable pub framesReported : (ℕ → ℕ → Bool) → List Entry → ℕ
+framesReported meant [] = 0
+framesReported meant (e ∷ log) = provided (reportsFrame meant (e .report) (e .answer)) 1 + framesReported meant log
 
 -- so it is of every entry, with the log before it
 pub data Always (P : Entry → List Entry → Type 0) : List Entry → Type 0 where
