@@ -1,4 +1,4 @@
-//! The paper's "The tick machine": the port, tick by tick; fitness; refusals 10 to 16; verdicts.
+//! The paper's "The tick machine": the port, tick by tick; fitness; refusals 10 to 16; verdicts, and how many of each.
 
 use crate::memory::occupied;
 use crate::table::{bag, check, Link, Table};
@@ -8,6 +8,9 @@ pub const LAST_TICK: u64 = (1 << 48) - 1;
 
 /// "A buffer may now contain 256 frames, and fitness allows a queue as many."
 pub const MOST_FRAMES: usize = 256;
+
+/// "a count at 2^52 rises no more"
+pub const FULL_COUNT: u64 = 1 << 52;
 
 pub const FILTERED: u64 = 1;
 pub const POLICED: u64 = 2;
@@ -59,6 +62,10 @@ pub struct Port {
     pub sending: Option<Sending>,
     pub line_ticks: Vec<u64>,
     pub accounts: Vec<Account>,
+    /// "for each virtual link, four counts, one per verdict": each in the place of its verdict.
+    pub counts: Vec<[u64; 4]>,
+    /// "and one count for frames with an unknown number"
+    pub unknown: u64,
 }
 
 /// "A wait report advances to T. A frame report (tick T, line, number, length)".
@@ -83,6 +90,13 @@ pub struct Answer {
     pub bytes: u64,
 }
 
+/// "each link's sum, and a grand total, unknown numbers included"; None: it "has no grand total".
+#[derive(Clone, Debug, PartialEq, Eq)]
+pub struct Sums {
+    pub links: Vec<u64>,
+    pub total: Option<u64>,
+}
+
 /// "three each: number, length, tick freed"
 type Departure = [u64; 3];
 
@@ -94,7 +108,8 @@ fn within_limits(link: &Link, length: u64) -> bool {
     u64::from(link.least) <= length && length <= u64::from(link.greatest)
 }
 
-/// "Fresh: clock, ticks and marks 0, queues empty, idle, credit B + J." "fresh port: 3 to 6", with 23 before 6.
+/// "Fresh: clock, ticks and marks 0, queues empty, idle, credit B + J." "fresh port: 3 to 6", with 23 before 6. Every count
+/// is 0.
 pub fn fresh(table: &Table) -> Result<Port, u32> {
     let refusal = check(table);
     if refusal != 0 {
@@ -108,6 +123,8 @@ pub fn fresh(table: &Table) -> Result<Port, u32> {
         sending: None,
         line_ticks: vec![0; table.lines as usize],
         accounts,
+        counts: vec![[0; 4]; table.count as usize],
+        unknown: 0,
     })
 }
 
@@ -130,6 +147,7 @@ impl Port {
             && self.line_ticks.iter().all(|tick| *tick <= self.clock)
             && self.accounts_are_fit()
             && self.sending_is_fit()
+            && self.counts_are_fit()
     }
 
     /// "fitness allows a queue as many", 256 frames; "queued frames name links of their priority within length
@@ -170,6 +188,18 @@ impl Port {
             return false;
         };
         frame.arrival <= start && start < self.clock && self.clock < start + frame.length
+    }
+
+    /// Every count of a link, and that of the frames with an unknown number.
+    fn all_counts(&self) -> Vec<u64> {
+        let mut counts = self.counts.concat();
+        counts.push(self.unknown);
+        counts
+    }
+
+    /// "Fitness requires all counts to be at most 2^52."
+    fn counts_are_fit(&self) -> bool {
+        self.all_counts().iter().all(|count| *count <= FULL_COUNT)
     }
 
     /// "Advance to T, for each tick m from clock to T − 1". Where nothing is held, idle ticks are passed
@@ -276,6 +306,25 @@ impl Port {
         STORED
     }
 
+    /// "A frame of a known number on another line counts as filtered under that number." "In a record handed in, a count at
+    /// 2^52 rises no more".
+    fn count(&mut self, number: u64, verdict: u64) {
+        let count = match self.place(number) {
+            Some(i) => &mut self.counts[i][verdict as usize],
+            None => &mut self.unknown,
+        };
+        if *count < FULL_COUNT {
+            *count += 1;
+        }
+    }
+
+    /// A frame's verdict, which is counted.
+    fn take(&mut self, tick: u64, frame: &Arrival) -> u64 {
+        let verdict = self.judge(tick, frame);
+        self.count(frame.number, verdict);
+        verdict
+    }
+
     /// A report: refused, with port and list as they were, or answered, with the departures at the start
     /// of the list: "the rest of the list stays".
     pub fn report(&mut self, report: &Report, list: &mut [u64]) -> Result<Answer, u32> {
@@ -288,11 +337,27 @@ impl Port {
             place.copy_from_slice(departure);
         }
         let verdict = match &report.frame {
-            Some(frame) => self.judge(report.tick, frame),
+            Some(frame) => self.take(report.tick, frame),
             None => 0,
         };
         let bytes = left.iter().map(|[_, length, _]| occupied(*length)).sum();
         Ok(Answer { verdict, frames: left.len() as u64, bytes })
+    }
+
+    /// "A call on a fit record (else 10) gives each link's sum, and a grand total, unknown numbers included."
+    pub fn sums(&self) -> Result<Sums, u32> {
+        if !self.is_fit() {
+            return Err(10);
+        }
+        let links = self.counts.iter().map(|four| four.iter().sum()).collect();
+        Ok(Sums { links, total: self.total() })
+    }
+
+    /// "a record with such a count has no grand total": one at 2^52.
+    fn total(&self) -> Option<u64> {
+        let counts = self.all_counts();
+        let none_is_full = counts.iter().all(|count| *count != FULL_COUNT);
+        none_is_full.then(|| counts.iter().sum())
     }
 }
 
@@ -573,6 +638,9 @@ mod tests {
         assert!(!fit_after(|p| send(p, 0, 1_000, 1_100)));
         assert!(!fit_after(|p| send(p, 0, 600, 600)));
         assert!(!fit_after(|p| send(p, 0, 600, u64::MAX)));
+        assert!(!fit_after(|p| p.counts[0][0] = FULL_COUNT + 1));
+        assert!(!fit_after(|p| p.counts[2][3] = u64::MAX));
+        assert!(!fit_after(|p| p.unknown = FULL_COUNT + 1));
     }
 
     #[test]
@@ -598,6 +666,116 @@ mod tests {
         assert_eq!((port, list), (before, [9; 6]));
     }
 
+    /// Frames and what comes of each; counts of stored, filtered, policed and dropped frames.
+    #[test]
+    fn counts_that_add_up() {
+        let mut run = Run::of(&table_e());
+        assert_eq!(run.port.sums(), Ok(Sums { links: vec![0, 0], total: Some(0) }));
+        assert_eq!(run.verdict(1_001, 0, 1, 500), Ok(STORED));
+        assert_eq!(run.verdict(13_500, 0, 1, 500), Ok(POLICED));
+        assert_eq!(run.verdict(13_900, 1, 1, 300), Ok(FILTERED));
+        assert_eq!(run.verdict(14_001, 0, 1, 501), Ok(FILTERED));
+        assert_eq!(run.verdict(14_200, 0, 9, 84), Ok(FILTERED));
+        assert_eq!(run.verdict(14_300, 0, 65_537, 84), Ok(FILTERED));
+        assert_eq!(run.verdict(14_310, 0, 1, 84), Err(15));
+        assert!(run.wait(15_000).is_ok());
+        assert_eq!(run.verdict(15_000, 7, 1, 84), Err(13));
+        assert_eq!(run.verdict(16_000, 1, 2, 1_000), Ok(STORED));
+        assert_eq!(run.port.counts, [[1, 2, 1, 0], [1, 0, 0, 0]]);
+        assert_eq!(run.port.unknown, 2);
+        assert_eq!(run.port.sums(), Ok(Sums { links: vec![4, 1], total: Some(7) }));
+    }
+
+    #[test]
+    fn dropped_frames_count() {
+        let mut table = table_e();
+        table.sizes[0] = 479;
+        let mut run = Run::of(&table);
+        assert_eq!(run.verdict(1_000, 0, 1, 500), Ok(DROPPED));
+        assert_eq!((&run.port.counts[..], run.port.unknown), (&[[0, 0, 0, 1], [0; 4]][..], 0));
+    }
+
+    /// Both wrong, the line and the length; and what is of no link: 3 stands behind the count.
+    #[test]
+    fn filtered_under_its_number_or_unknown() {
+        let mut table = table_e();
+        table.links[2] = link(3, 0, 0, 500);
+        let mut run = Run::of(&table);
+        assert_eq!(run.verdict(2_000, 1, 1, 1_538), Ok(FILTERED));
+        assert_eq!(run.verdict(4_000, 0, 2, 1_001), Ok(FILTERED));
+        for (i, number) in [0, 3, 65_538, (1 << 32) + 1, u64::MAX].into_iter().enumerate() {
+            assert_eq!(run.verdict(6_000 + 100 * i as u64, 0, number, 84), Ok(FILTERED));
+        }
+        assert_eq!(run.port.counts, [[0, 1, 0, 0], [0, 1, 0, 0]]);
+        assert_eq!(run.port.unknown, 5);
+    }
+
+    /// A run on table E whose counts are not 0.
+    fn counted(counts: [[u64; 4]; 2], unknown: u64) -> Run {
+        let mut run = Run::of(&table_e());
+        run.port.counts = counts.to_vec();
+        run.port.unknown = unknown;
+        run
+    }
+
+    #[test]
+    fn a_count_at_2_52() {
+        let last = (1 << 52) - 1;
+        let mut run = counted([[last, 0, 0, 0], [0; 4]], 0);
+        assert_eq!(run.port.sums(), Ok(Sums { links: vec![last, 0], total: Some(last) }));
+        for tick in [20_000, 40_000] {
+            assert_eq!(run.verdict(tick, 0, 1, 500), Ok(STORED));
+            assert_eq!(run.port.counts, [[1 << 52, 0, 0, 0], [0; 4]]);
+            assert_eq!(run.port.sums(), Ok(Sums { links: vec![1 << 52, 0], total: None }));
+        }
+        assert_eq!(run.port.queues[0].frames.len(), 1);
+        let mut above = counted([[(1 << 52) + 1, 0, 0, 0], [0; 4]], 0);
+        assert_eq!(above.port.sums(), Err(10));
+        assert_eq!(above.verdict(20_000, 0, 1, 500), Err(10));
+        assert_eq!(above.wait(20_000), Err(10));
+    }
+
+    #[test]
+    fn each_count_has_its_end() {
+        for place in 0..9 {
+            let with = |value: u64| {
+                let mut all = [0; 9];
+                all[place] = value;
+                counted([[all[0], all[1], all[2], all[3]], [all[4], all[5], all[6], all[7]]], all[8]).port
+            };
+            assert_eq!(with((1 << 52) - 1).sums().map(|sums| sums.total), Ok(Some((1 << 52) - 1)));
+            assert_eq!(with(1 << 52).sums().map(|sums| sums.total), Ok(None));
+            assert_eq!(with((1 << 52) + 1).sums(), Err(10));
+            assert_eq!(with(u64::MAX).sums(), Err(10));
+        }
+    }
+
+    #[test]
+    fn unknown_numbers_at_2_52() {
+        let mut run = counted([[0; 4]; 2], 1 << 52);
+        assert_eq!(run.verdict(1_000, 0, 9, 84), Ok(FILTERED));
+        assert_eq!(run.port.unknown, 1 << 52);
+        assert_eq!(run.port.sums(), Ok(Sums { links: vec![0, 0], total: None }));
+    }
+
+    #[test]
+    fn the_greatest_total_of_e() {
+        let last = (1 << 52) - 1;
+        let mut run = counted([[last; 4]; 2], last);
+        assert_eq!(run.port.sums(), Ok(Sums { links: vec![4 * last; 2], total: Some(9 * last) }));
+        assert_eq!(run.verdict(1_000, 1, 2, 84), Ok(STORED));
+        assert_eq!(run.port.sums(), Ok(Sums { links: vec![4 * last, 4 * last + 1], total: None }));
+    }
+
+    /// Waits and refused reports count nothing; the call is refused where a report is.
+    #[test]
+    fn sums_of_a_record_that_is_not_fit() {
+        let mut port = busy();
+        assert_eq!(port.sums(), Ok(Sums { links: vec![1; 3], total: Some(3) }));
+        port.accounts[1].tick = 1_101;
+        assert_eq!(port.sums(), Err(10));
+    }
+
     #[test]
     fn records_that_are_fit_at_an_edge() {
         assert!(fit_after(|_| ()));
@@ -619,5 +797,7 @@ mod tests {
             p.sending = None;
             p.clock = LAST_TICK;
         }));
+        assert!(fit_after(|p| p.counts.fill([FULL_COUNT; 4])));
+        assert!(fit_after(|p| p.unknown = FULL_COUNT));
     }
 }

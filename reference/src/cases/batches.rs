@@ -1,7 +1,7 @@
 //! The batches: the examples, lists of every awkward length, numbers that would be cut, traffic, port records.
 
-use super::lists::{self, List};
-use super::{named_lists, port_records};
+use super::lists::{self, Call, List};
+use super::{count_records, named_lists, port_records};
 use crate::batch::{bytes_of_numbers, on_file, whole_numbers};
 use crate::examples::{table_e, table_over};
 use crate::port::LAST_TICK;
@@ -308,11 +308,23 @@ fn some_departures(random: &mut Random, file: &[u8], reports: &[u8]) -> usize {
     }
 }
 
+/// Those about counts with few links, and every fourth of the others.
+fn counted_records() -> Vec<(Record, Vec<Call>)> {
+    let mut others = 0;
+    let mut records = count_records::all();
+    records.retain(|(record, _)| {
+        others += usize::from(record.table.count > 24);
+        record.table.count <= 24 || others % 4 == 0
+    });
+    records
+}
+
 /// Port records handed in, fit and not, with their reports in a batch; the lists are long enough, and each record that is
 /// not fit is lent a short one too.
 fn records() -> Vec<Batch> {
     let mut batches = Vec::new();
-    for (i, (record, calls)) in port_records::all().into_iter().enumerate() {
+    let records = port_records::all().into_iter().chain(counted_records());
+    for (i, (record, calls)) in records.enumerate() {
         let reports: Vec<u8> = calls.iter().flat_map(|call| bytes_of(&call.report)).collect();
         let longest = calls.iter().map(|call| call.list).max().unwrap_or(0);
         let departures = [8 * (longest + 3 * calls.len()), 24][usize::from(i % 5 == 4)];

@@ -4,6 +4,8 @@ pub mod batch;
 pub mod batches;
 pub mod bounds;
 pub mod carried;
+pub mod count_records;
+pub mod counted_lists;
 pub mod lists;
 pub mod make;
 pub mod named_lists;

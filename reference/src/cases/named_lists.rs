@@ -1,10 +1,11 @@
 //! Lists of reports made by hand: table C filled to the last byte of its buffer, frames at the last byte of a size, and a line
-//! that is full.
+//! that is full; and those for the counts.
 
+use super::counted_lists;
 use super::lists::{Call, List};
 use super::make::table_of;
 use crate::examples::{filled_c, link, table_c, table_e, table_full};
-use crate::port::{fresh, Arrival, Report};
+use crate::port::{fresh, Answer, Arrival, Port, Report};
 use crate::table::Table;
 
 /// Every list, in order.
@@ -15,26 +16,35 @@ pub fn all() -> Vec<List> {
     }
     lists.push(brimful());
     lists.push(full_line());
+    lists.extend(counted_lists::all());
     lists
 }
 
-fn wait(tick: u64) -> Report {
+pub fn wait(tick: u64) -> Report {
     Report { tick, frame: None }
 }
 
-fn frame(tick: u64, line: u64, number: u64, length: u64) -> Report {
+pub fn frame(tick: u64, line: u64, number: u64, length: u64) -> Report {
     Report { tick, frame: Some(Arrival { line, number, length }) }
 }
 
-/// The reports in order, each lent a list that is just long enough.
-pub fn list_of(table: Table, reports: &[Report]) -> List {
-    let mut port = fresh(&table).expect("a good table");
+/// The reports in order to this port, each lent a list that is just long enough; and what is answered.
+pub fn told(port: &mut Port, reports: &[Report]) -> (Vec<Call>, Vec<Result<Answer, u32>>) {
     let mut calls = Vec::new();
+    let mut answers = Vec::new();
     for report in reports {
         let list = 3 * port.frames_held();
-        port.report(report, &mut vec![0; list]).expect("a report that is accepted");
+        answers.push(port.report(report, &mut vec![0; list]));
         calls.push(Call { report: *report, list });
     }
+    (calls, answers)
+}
+
+/// The reports in order to a fresh port, which accepts them all.
+pub fn list_of(table: Table, reports: &[Report]) -> List {
+    let mut port = fresh(&table).expect("a good table");
+    let (calls, answers) = told(&mut port, reports);
+    assert!(answers.iter().all(Result::is_ok), "a report is refused");
     List { table, calls }
 }
 

@@ -10,15 +10,19 @@
 //! is that of the port handed out. Then for each report `refused N SUM` or `accepted VERDICT FRAMES BYTES SUM`,
 //! where SUM is the FNV-1a of the whole list afterwards, each number as 8 bytes, little-endian. Behind the
 //! reports `end CLOCK SUM`, then held bytes and mark of each priority; SUM is that of the record's numbers, in
-//! the order of `state_of`, entries of a queue behind its count among them where no report was accepted.
+//! the order of `state_of`, entries of a queue behind its count among them where no report was accepted. And behind it
+//! `counts REFUSED FLAG TOTAL UNKNOWN SUM`: of the call for sums on that record its refusal, 1 if there is a grand total and 0
+//! else, and the total; the record's count of unknown numbers; and the FNV-1a of the call's 256 sums, each as 8 bytes,
+//! little-endian. Where there is no total it is 0; where the call is refused, and behind the table's count, the sums are 0.
 
+use super::count_records;
 use super::lists::{self, Call, List};
 use super::port_records::{self, record_bytes, table_bytes};
 use super::table::fnv;
 use super::Cases;
 use crate::bounds::bounds;
 use crate::memory::occupied;
-use crate::port::STORED;
+use crate::port::{Sums, STORED};
 use crate::record::{Queue, Record};
 use crate::table::{Link, Table, MOST_LINKS};
 use crate::watch::{Entry, Watch};
@@ -43,7 +47,7 @@ fn numbers_of_table(table: &Table) -> Vec<u64> {
 
 /// The clock; the table; for each priority count and mark, then each frame's number, length and arrival, up to
 /// the count or all of them; 0 if idle, else 1, priority and start; the ticks of all lines; credit and tick of all
-/// links.
+/// links; all 1,024 counts, and that of unknown numbers.
 pub fn state_of(record: &Record, whole: bool) -> u32 {
     let mut numbers = vec![record.clock];
     numbers.extend(numbers_of_table(&record.table));
@@ -62,6 +66,8 @@ pub fn state_of(record: &Record, whole: bool) -> u32 {
     for account in &record.accounts {
         numbers.extend([account.credit, account.tick]);
     }
+    numbers.extend(record.counts);
+    numbers.push(record.unknown);
     fnv_of_numbers(&numbers)
 }
 
@@ -72,6 +78,21 @@ fn end_line(record: &Record, whole: bool) -> String {
         line += &format!(" {held} {}", queue.mark);
     }
     line + "\n"
+}
+
+/// "A call on a fit record (else 10) gives each link's sum, and a grand total, unknown numbers included."
+fn counts_line(record: &Record, answer: &Result<Sums, u32>) -> String {
+    let mut sums = [0; MOST_LINKS];
+    let (refused, total) = match answer {
+        Ok(answer) => {
+            sums[..answer.links.len()].copy_from_slice(&answer.links);
+            (0, answer.total)
+        }
+        Err(refusal) => (*refusal, None),
+    };
+    let flag = u8::from(total.is_some());
+    let sum = fnv_of_numbers(&sums);
+    format!("counts {refused} {flag} {} {} {sum}\n", total.unwrap_or(0), record.unknown)
 }
 
 /// Runs a report, and gives its line beside what a watch sees of it.
@@ -114,6 +135,10 @@ struct Tally {
     unfit_in_wire_bytes: usize,
     /// Stored frames that would be dropped in wire bytes.
     dropped_in_wire_bytes: usize,
+    /// Calls for sums with a grand total, with none, and refused.
+    sums: [usize; 3],
+    /// The bytes of the longest record.
+    longest: usize,
 }
 
 fn wire_bytes(queue: &Queue) -> u64 {
@@ -142,6 +167,15 @@ impl Tally {
         }
     }
 
+    fn count_sums(&mut self, answer: &Result<Sums, u32>) {
+        let kind = match answer {
+            Ok(Sums { total: Some(_), .. }) => 0,
+            Ok(Sums { total: None, .. }) => 1,
+            Err(_) => 2,
+        };
+        self.sums[kind] += 1;
+    }
+
     /// An accepted report: the record afterwards, and whether it was marked below its wire bytes before.
     fn count_accepted(&mut self, entry: &Entry, was_marked_below: bool, record: &Record) {
         self.unfit_in_wire_bytes += usize::from(was_marked_below);
@@ -162,8 +196,9 @@ struct Maker {
 impl Maker {
     fn put(&mut self, form: u8, bytes: &[u8]) {
         self.cases.stdin.push(form);
-        self.cases.stdin.extend((bytes.len() as u16).to_le_bytes());
+        self.cases.stdin.extend(u16::try_from(bytes.len()).expect("two bytes").to_le_bytes());
         self.cases.stdin.extend(bytes);
+        self.tally.longest = self.tally.longest.max(bytes.len());
     }
 
     fn say(&mut self, line: &str) {
@@ -205,6 +240,9 @@ impl Maker {
             self.say(&line);
         }
         self.say(&end_line(&record, !accepted));
+        let sums = record.sums();
+        self.tally.count_sums(&sums);
+        self.say(&counts_line(&record, &sums));
     }
 }
 
@@ -225,22 +263,27 @@ fn made() -> Maker {
         maker.fresh_case(table, &port_records::calls_at(0));
     }
     let records = port_records::all();
-    for (record, calls) in &records {
+    let counted = count_records::all();
+    for (record, calls) in records.iter().chain(&counted) {
         maker.record_case(record, calls);
     }
     let tally = &maker.tally;
     maker.cases.summary = format!(
-        "lists: {}; wrong tables: {}; records: {}; reports: {}; stored, filtered, policed, dropped: {:?}; waits: {}; \
-         refused 10 to 16: {:?}; too much in wire bytes: {} stored, {} ports\n",
+        "lists: {}; wrong tables: {}; records: {}, and {} about counts; reports: {}; stored, filtered, policed, dropped: {:?}; waits: {}; \
+         refused 10 to 16: {:?}; too much in wire bytes: {} stored, {} ports; sums with a total, with none, refused: {:?}; \
+         longest record: {} bytes\n",
         lists.len(),
         tables.len(),
         records.len(),
+        counted.len(),
         tally.reports,
         tally.verdicts,
         tally.waits,
         &tally.refused[10..],
         tally.dropped_in_wire_bytes,
-        tally.unfit_in_wire_bytes
+        tally.unfit_in_wire_bytes,
+        tally.sums,
+        tally.longest
     );
     maker
 }
@@ -298,6 +341,10 @@ mod tests {
         }
         assert!(text.lines().filter(|line| line.starts_with("fresh 23 ")).count() >= 4);
         assert!(tally.dropped_in_wire_bytes >= 500 && tally.unfit_in_wire_bytes >= 5_000);
-        assert!(lists::all().iter().all(|list| (20..=400).contains(&list.calls.len())));
+        let lengths: Vec<usize> = lists::all().iter().map(|list| list.calls.len()).collect();
+        assert!(lengths.iter().all(|many| (10..=400).contains(many)));
+        assert!(lengths.iter().filter(|many| **many >= 20).count() >= 420);
+        assert!(tally.sums.iter().all(|many| *many >= 100));
+        assert_eq!(tally.longest, 40_518);
     }
 }

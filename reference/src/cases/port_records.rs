@@ -3,14 +3,15 @@
 //! An array stands in a case as its last entry, the number of entries before the run of those at its end
 //! (2 bytes), and these. A table record: lines (2 bytes), count (2), links (number 2, line 1, priority 1, code 1, least
 //! 2, greatest 2, jitter 4), sizes (4 each). A port record: clock (8), sender (kind 1, priority 1, start 8), the table,
-//! line ticks (8), accounts (credit 8, tick 8), and for each priority count (2), mark (4), frames (number 2,
+//! line ticks (8), accounts (credit 8, tick 8), counts (8; 1,024 of them, link i's four from 4 × i on, each in the place of
+//! its verdict), the count of unknown numbers (8), and for each priority count (2), mark (4), frames (number 2,
 //! length 2, arrival 8).
 
 use super::lists::Call;
 use super::make::table_of;
 use crate::examples::{link, nine_on, table_full, table_over, table_spread};
 use crate::memory::occupied;
-use crate::port::{Account, Arrival, Report, LAST_TICK, MOST_FRAMES};
+use crate::port::{Account, Arrival, Report, FULL_COUNT, LAST_TICK, MOST_FRAMES};
 use crate::record::{Entry, Record};
 use crate::table::{bag, Link, Table};
 
@@ -54,6 +55,8 @@ pub fn record_bytes(record: &Record) -> Vec<u8> {
     bytes.extend(table_bytes(&record.table));
     put_array(&mut bytes, &record.line_ticks, |tick| tick.to_le_bytes().to_vec());
     put_array(&mut bytes, &record.accounts, |a| [a.credit.to_le_bytes(), a.tick.to_le_bytes()].concat());
+    put_array(&mut bytes, &record.counts, |count| count.to_le_bytes().to_vec());
+    bytes.extend(record.unknown.to_le_bytes());
     for queue in &record.queues {
         bytes.extend(queue.count.to_le_bytes());
         bytes.extend(queue.mark.to_le_bytes());
@@ -108,6 +111,8 @@ fn busy() -> Record {
     for (i, account) in record.accounts[..5].iter_mut().enumerate() {
         *account = Account { credit: 1_000 * i as u64, tick: 49_000 + i as u64 };
     }
+    record.counts[..20].copy_from_slice(&std::array::from_fn::<u64, 20, _>(|i| 101 + 7 * i as u64));
+    record.unknown = 41;
     record
 }
 
@@ -146,6 +151,7 @@ fn wild_behind(record: &mut Record) {
     record.table.links[count..].fill(WILD_LINK);
     record.line_ticks[lines..].fill(u64::MAX);
     record.accounts[count..].fill(Account { credit: u64::MAX, tick: u64::MAX });
+    record.counts[4 * count..].fill(u64::MAX);
     for queue in &mut record.queues {
         let count = usize::from(queue.count);
         queue.frames[count..].fill(WILD_FRAME);
@@ -205,9 +211,20 @@ fn full() -> Record {
     full_of(LAST_TICK, |_| (31, LAST_TICK))
 }
 
-/// No two frames are alike, so that all stand in the case: none is longer.
+/// No two neighbours are alike in any array, so that all stand in the case: none is longer.
 fn full_of_unlike() -> Record {
-    full_of(CLOCK, |i| (i % 32, CLOCK - 255 + i as u64))
+    let mut record = full_of(CLOCK, |i| (i % 32, CLOCK - 255 + i as u64));
+    for (i, tick) in (0..).zip(&mut record.line_ticks) {
+        *tick = CLOCK - i;
+    }
+    for (i, account) in (0..).zip(&mut record.accounts) {
+        account.tick = CLOCK - i;
+    }
+    for (i, count) in (0..).zip(&mut record.counts) {
+        *count = FULL_COUNT - 1_024 + i;
+    }
+    record.unknown = 41;
+    record
 }
 
 /// The last of everything: records that are fit.
@@ -253,6 +270,8 @@ fn edges() -> Vec<Record> {
         }),
         full(),
         full_of_unlike(),
+        busy_with(|r| r.counts[..20].fill(FULL_COUNT)),
+        busy_with(|r| r.unknown = FULL_COUNT),
         of_nine_and(|t| t.links[9] = link(9, 0, 0, 1_538)),
         of_nine_and(|t| *t = table_spread()),
         of_nine_and(|t| tenth(t, 128)),
@@ -389,6 +408,18 @@ fn wrong_senders() -> Vec<Record> {
     ]
 }
 
+/// "Fitness requires all counts to be at most 2^52.", not so.
+fn wrong_counts() -> Vec<Record> {
+    vec![
+        busy_with(|r| r.counts[0] = FULL_COUNT + 1),
+        busy_with(|r| r.counts[9] = 1 << 63),
+        busy_with(|r| r.counts[19] = FULL_COUNT + 1),
+        busy_with(|r| r.counts[19] = u64::MAX),
+        busy_with(|r| r.unknown = FULL_COUNT + 1),
+        busy_with(|r| r.unknown = u64::MAX),
+    ]
+}
+
 /// Records that are not fit, each in one way.
 fn unfit() -> Vec<Record> {
     let mut records = wrong_tables();
@@ -396,6 +427,7 @@ fn unfit() -> Vec<Record> {
     records.extend(wrong_marks());
     records.extend(wrong_ticks());
     records.extend(wrong_senders());
+    records.extend(wrong_counts());
     records.push(everything_wild());
     records
 }
@@ -409,6 +441,8 @@ fn everything_wild() -> Record {
     record.table.sizes.fill(u32::MAX);
     record.line_ticks.fill(u64::MAX);
     record.accounts.fill(Account { credit: u64::MAX, tick: u64::MAX });
+    record.counts.fill(u64::MAX);
+    record.unknown = u64::MAX;
     record.sender = Some((255, u64::MAX));
     for queue in &mut record.queues {
         queue.count = u16::MAX;
@@ -521,6 +555,16 @@ mod tests {
             verdicts.push(answer.expect("accepted").verdict);
         }
         assert_eq!(verdicts, [STORED, STORED, DROPPED, STORED, DROPPED, DROPPED]);
+    }
+
+    /// As many bytes as a record can have: an array's last entry, how many are given, and all but one.
+    #[test]
+    fn the_longest_record() {
+        let array = |entries: usize, bytes: usize| bytes + 2 + (entries - 1) * bytes;
+        let table = 4 + array(256, 13) + 32;
+        let port = 18 + table + array(24, 8) + array(256, 16) + array(1_024, 8) + 8;
+        let most = port + 8 * (6 + array(MOST_FRAMES, 12));
+        assert_eq!((most, record_bytes(&full_of_unlike()).len()), (40_518, most));
     }
 
     #[test]
