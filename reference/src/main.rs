@@ -1,5 +1,5 @@
 //! `reference CASES FOLDER` makes the cases, `reference check-CASES FOLDER` compares the committed ones with
-//! what is computed, `reference watch` watches demand 3, and two ports in a row, on the lists of the port's cases,
+//! what is computed, `reference watch` watches demand 3, counts, and two ports in a row, on the lists of the port's cases,
 //! `reference replay TABLE REPORTS` prints what the program replay must print, `reference redundancy SKEW A B` what
 //! redundancy must, `reference next TABLE LINE LINES [SIZES]` what next_table must, and `reference batch TABLE
 //! REPORTS` what the examples must; `reference batch-runs FOLDER` writes files for them.

@@ -1,4 +1,4 @@
-//! What the program replay prints: a line for each report of a file, then held bytes and mark of each priority.
+//! What the program replay prints: a line for each report of a file, then held bytes and mark of each priority, then the counts.
 
 use crate::port::{fresh, Arrival, Port, Report, MOST_FRAMES};
 use crate::table;
@@ -50,6 +50,19 @@ fn line_of(port: &mut Port, report: &Report) -> String {
     line + "\n"
 }
 
+/// "After a rig day the crew wants to see where the frames went": a line for each link, with its counts and their sum, then
+/// the count of unknown numbers and the grand total, or `-` where there is none.
+fn counts_of(port: &Port) -> Result<String, u32> {
+    let sums = port.sums()?;
+    let mut text = String::from("number stored filtered policed dropped sum\n");
+    for ((v, counts), sum) in port.table.members().iter().zip(&port.counts).zip(&sums.links) {
+        let [stored, filtered, policed, dropped] = counts;
+        text += &format!("{} {stored} {filtered} {policed} {dropped} {sum}\n", v.number);
+    }
+    let total = sums.total.map_or("-".to_string(), |total| total.to_string());
+    Ok(text + &format!("unknown {}\ntotal {total}\n", port.unknown))
+}
+
 fn lines_of(table: &[u8], file: &[u8]) -> Result<String, u32> {
     let table = table::read(table)?;
     let mut port = fresh(&table)?;
@@ -61,7 +74,7 @@ fn lines_of(table: &[u8], file: &[u8]) -> Result<String, u32> {
     for (p, queue) in port.queues.iter().enumerate() {
         text += &format!("{p} {} {}\n", queue.held(), queue.mark);
     }
-    Ok(text)
+    Ok(text + &counts_of(&port)?)
 }
 
 /// All that is printed for a table file and a file of reports.
@@ -76,8 +89,10 @@ pub fn replay(table: &[u8], reports: &[u8]) -> String {
 mod tests {
     use super::*;
     use crate::examples::{table_e, table_over};
+    use crate::port::FULL_COUNT;
 
-    const END: &str = "2 0 0\n3 0 0\n4 0 0\n5 0 0\n6 0 0\n7 0 0\n";
+    const END: &str =
+        "2 0 0\n3 0 0\n4 0 0\n5 0 0\n6 0 0\n7 0 0\nnumber stored filtered policed dropped sum\n";
 
     fn frame(tick: u64, number: u64, length: u64) -> Vec<u8> {
         bytes_of(&Report { tick, frame: Some(Arrival { line: number - 1, number, length }) })
@@ -89,9 +104,42 @@ mod tests {
         let wait = bytes_of(&Report { tick: 5_000, frame: None });
         let reports = [frame(1_000, 2, 1_000), frame(1_001, 1, 500), wait].concat();
         let answers = "accepted 0 0 0\naccepted 0 0 0\naccepted 0 2 1460 2:1000:2000 1:500:2500\n";
-        let expected = format!("{answers}priority held mark\n0 0 480\n1 0 980\n{END}");
+        let counts = "1 1 0 0 0 1\n2 1 0 0 0 1\nunknown 0\ntotal 2\n";
+        let expected = format!("{answers}priority held mark\n0 0 480\n1 0 980\n{END}{counts}");
         assert_eq!(replay(&table, &reports), expected);
-        assert_eq!(replay(&table, &[]), format!("priority held mark\n0 0 0\n1 0 0\n{END}"));
+        let none = "1 0 0 0 0 0\n2 0 0 0 0 0\nunknown 0\ntotal 0\n";
+        assert_eq!(replay(&table, &[]), format!("priority held mark\n0 0 0\n1 0 0\n{END}{none}"));
+    }
+
+    #[test]
+    fn counts_that_add_up() {
+        let on = |tick, line, number, length| {
+            bytes_of(&Report { tick, frame: Some(Arrival { line, number, length }) })
+        };
+        let reports = [
+            on(1_001, 0, 1, 500),
+            on(13_500, 0, 1, 500),
+            on(13_900, 1, 1, 300),
+            on(14_001, 0, 1, 501),
+            on(14_200, 0, 9, 84),
+            on(14_300, 0, 65_537, 84),
+            on(14_310, 0, 1, 84),
+            bytes_of(&Report { tick: 15_000, frame: None }),
+            on(15_000, 7, 1, 84),
+            on(16_000, 1, 2, 1_000),
+        ];
+        let printed = replay(&table::bytes_of(&table_e()), &reports.concat());
+        let counts = "1 1 2 1 0 4\n2 1 0 0 0 1\nunknown 2\ntotal 7\n";
+        assert!(printed.ends_with(&format!("priority held mark\n0 0 480\n1 980 980\n{END}{counts}")));
+    }
+
+    #[test]
+    fn no_grand_total() {
+        let mut port = fresh(&table_e()).expect("a good table");
+        port.counts[1][2] = FULL_COUNT;
+        let counts = format!("1 0 0 0 0 0\n2 0 0 {FULL_COUNT} 0 {FULL_COUNT}\nunknown 0\ntotal -\n");
+        let text = counts_of(&port).expect("a fit record");
+        assert_eq!(text, format!("number stored filtered policed dropped sum\n{counts}"));
     }
 
     #[test]

@@ -1,10 +1,12 @@
 //! Demand 3, watched: "The words of demand 3 go by the reports and their answers." And windows: no buffer is as full as its
-//! bound sooner than its window after a quiet moment.
+//! bound sooner than its window after a quiet moment. And counts, by the reports and their answers too.
 
 use crate::bounds::Bounds;
 use crate::memory::occupied;
-use crate::port::{Answer, Frame, Port, Report, DROPPED, FILTERED, POLICED, STORED};
+use crate::port::{Answer, Frame, Port, Report, DROPPED, FILTERED, FULL_COUNT, POLICED, STORED};
+use crate::record::Record;
 use crate::table::{bag, Link, Table};
+use std::collections::BTreeMap;
 
 /// A report, what was answered, and its departures: number, length, tick freed.
 pub struct Entry {
@@ -158,6 +160,92 @@ fn keeps(link: &Link, ticks: &[u64]) -> bool {
     (0..ticks.len()).all(|i| (1..ticks.len() - i).all(|j| ticks[i + j] - ticks[i] + jitter >= j as u64 * b))
 }
 
+/// "For every list of reports from a fresh port, each count is the number of accepted frame reports it stands for, none
+/// reaches 2^52, and the grand total is the number of all of them."
+pub struct Counted<'a> {
+    table: &'a Table,
+    /// How many accepted frame reports there were of each number and verdict.
+    accepted: BTreeMap<(u64, u64), u64>,
+}
+
+impl<'a> Counted<'a> {
+    pub fn new(table: &'a Table) -> Counted<'a> {
+        Counted { table, accepted: BTreeMap::new() }
+    }
+
+    /// Takes one more report; what is refused and a wait are no accepted frame reports.
+    pub fn take(&mut self, report: &Report, answer: &Result<Answer, u32>) {
+        if let (Some(frame), Ok(answer)) = (report.frame, answer) {
+            *self.accepted.entry((frame.number, answer.verdict)).or_insert(0) += 1;
+        }
+    }
+
+    /// The accepted frame reports whose number and verdict are such.
+    fn sum(&self, is_such: impl Fn(u64, u64) -> bool) -> u64 {
+        self.accepted
+            .iter()
+            .filter(|((number, verdict), _)| is_such(*number, *verdict))
+            .map(|(_, many)| many)
+            .sum()
+    }
+
+    fn is_unknown(&self, number: u64) -> bool {
+        self.table.members().iter().all(|v| u64::from(v.number) != number)
+    }
+
+    /// All accepted frame reports.
+    pub fn all(&self) -> u64 {
+        self.sum(|_, _| true)
+    }
+
+    /// Whether a record has these counts and these sums.
+    pub fn compare(&self, record: &Record) -> Result<(), String> {
+        for (v, counts) in self.table.members().iter().zip(record.counts.chunks(4)) {
+            let number = u64::from(v.number);
+            for (verdict, count) in (0..).zip(counts) {
+                let accepted = self.accepted.get(&(number, verdict)).copied().unwrap_or(0);
+                is_counted(&format!("link {number}, verdict {verdict}"), *count, accepted)?;
+            }
+        }
+        is_counted("unknown numbers", record.unknown, self.sum(|number, _| self.is_unknown(number)))?;
+        self.compare_sums(record)
+    }
+
+    fn compare_sums(&self, record: &Record) -> Result<(), String> {
+        let sums = record.sums().map_err(|refusal| format!("the sums are refused with {refusal}"))?;
+        let members = self.table.members();
+        let of_link = |v: &Link| self.sum(|number, _| number == u64::from(v.number));
+        if !members.iter().map(of_link).eq(sums.links) {
+            return Err("a link's sum is not the number of its accepted frame reports".into());
+        }
+        if sums.total != Some(self.all()) {
+            return Err(format!("the grand total is {:?} of {}", sums.total, self.all()));
+        }
+        Ok(())
+    }
+}
+
+fn is_counted(what: &str, count: u64, accepted: u64) -> Result<(), String> {
+    if count != accepted || count >= FULL_COUNT {
+        return Err(format!("{what}: a count of {count} for {accepted} accepted frame reports"));
+    }
+    Ok(())
+}
+
+/// The reports in order to the fresh port of the table, each lent a list of so many numbers: how many frame reports are
+/// accepted, or the first breach.
+pub fn watch_counts(table: &Table, calls: &[(Report, usize)]) -> Result<u64, String> {
+    let mut record = Record::fresh(table).expect("a good table");
+    let mut counted = Counted::new(table);
+    counted.compare(&record)?;
+    for (k, (report, list)) in calls.iter().enumerate() {
+        let answer = record.report(report, &mut vec![0; *list]);
+        counted.take(report, &answer);
+        counted.compare(&record).map_err(|breach| format!("report {k}: {breach}"))?;
+    }
+    Ok(counted.all())
+}
+
 #[cfg(test)]
 mod tests {
     use super::*;
@@ -242,5 +330,53 @@ mod tests {
         assert!(keeps(&late, &[5, 12_405, 25_000]));
         assert!(!keeps(&late, &[5, 12_404]));
         assert!(!keeps(&late, &[5, 12_405, 24_804]));
+    }
+
+    /// E's port after two frames of link 1, one of an unknown number and one that is refused; and what is seen of them.
+    fn counted(table: &Table) -> (Counted<'_>, Record) {
+        let mut record = Record::fresh(table).expect("a good table");
+        let mut counted = Counted::new(table);
+        for (tick, number) in [(1_000, 1), (1_500, 1), (1_500, 1), (2_000, 9)] {
+            let report = Report { tick, frame: Some(Arrival { line: 0, number, length: 500 }) };
+            let answer = record.report(&report, &mut [0; 6]);
+            counted.take(&report, &answer);
+        }
+        (counted, record)
+    }
+
+    #[test]
+    fn what_is_counted() {
+        let table = table_e();
+        let (counted, record) = counted(&table);
+        assert_eq!((counted.compare(&record), counted.all()), (Ok(()), 3));
+    }
+
+    #[test]
+    fn each_wrong_count_is_seen() {
+        let table = table_e();
+        let (counted, record) = counted(&table);
+        for place in 0..8 {
+            let mut other = record.clone();
+            other.counts[place] += 1;
+            assert!(counted.compare(&other).is_err());
+        }
+        for unknown in [0, 2, FULL_COUNT, FULL_COUNT + 1] {
+            assert!(counted.compare(&Record { unknown, ..record.clone() }).is_err());
+        }
+        let mut moved = record.clone();
+        moved.counts[1] += 1;
+        moved.unknown -= 1;
+        assert!(counted.compare(&moved).is_err());
+        let mut behind = record.clone();
+        behind.counts[8] = u64::MAX;
+        assert!(counted.compare(&behind).is_ok());
+    }
+
+    #[test]
+    fn a_list_is_counted() {
+        let frame = |tick, number| Report { tick, frame: Some(Arrival { line: 0, number, length: 84 }) };
+        let wait = Report { tick: 5_000, frame: None };
+        let calls = [(frame(1_000, 1), 0), (frame(1_083, 1), 3), (frame(1_084, 2), 3), (wait, 3)];
+        assert_eq!(watch_counts(&table_e(), &calls), Ok(2));
     }
 }

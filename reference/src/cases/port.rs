@@ -22,10 +22,10 @@ use super::table::fnv;
 use super::Cases;
 use crate::bounds::bounds;
 use crate::memory::occupied;
-use crate::port::{Sums, STORED};
+use crate::port::{Report, Sums, STORED};
 use crate::record::{Queue, Record};
 use crate::table::{Link, Table, MOST_LINKS};
-use crate::watch::{Entry, Watch};
+use crate::watch::{watch_counts, Entry, Watch};
 
 const FILLED: u64 = 0xA5A5_A5A5_A5A5_A5A5;
 
@@ -292,28 +292,42 @@ pub fn cases() -> Cases {
     made().cases
 }
 
-/// Watches demand 3 on every list whose table has bounds: what was seen, or the first breach.
+/// Watches demand 3 on every list whose table has bounds, and the counts on every list: what was seen, or the first breach.
 pub fn watch() -> Result<String, String> {
-    let mut watched = 0;
-    let mut reached = 0;
-    for (i, list) in lists::all().iter().enumerate() {
-        let Ok(found) = bounds(&list.table) else {
-            continue;
-        };
-        let mut watch = Watch::new(&list.table, &found);
-        let mut record = Record::fresh(&list.table).expect("a good table");
-        for (k, call) in list.calls.iter().enumerate() {
-            let (_, entry) = run(&mut record, call);
-            let port = record.port().expect("counts within the arrays");
-            watch
-                .take(&entry)
-                .and_then(|()| watch.compare(&port))
-                .map_err(|breach| format!("list {i}, report {k}: {breach}"))?;
+    let lists = lists::all();
+    let (mut watched, mut reached, mut counted) = (0, 0, 0);
+    for (i, list) in lists.iter().enumerate() {
+        let in_list = |breach: String| format!("list {i}, {breach}");
+        if let Some(is_reached) = watch_bounds(list).map_err(in_list)? {
+            watched += 1;
+            reached += usize::from(is_reached);
         }
-        watched += 1;
-        reached += usize::from(watch.reached() > 0);
+        let calls: Vec<(Report, usize)> = list.calls.iter().map(|call| (call.report, call.list)).collect();
+        counted += watch_counts(&list.table, &calls).map_err(in_list)?;
     }
-    Ok(format!("lists watched: {watched}, with no breach; a buffer reached its bound in {reached}\n"))
+    Ok(format!(
+        "lists watched: {watched}, with no breach; a buffer reached its bound in {reached}\n\
+         lists counted: {}, with {counted} accepted frame reports, and no breach\n",
+        lists.len()
+    ))
+}
+
+/// Demand 3 on a list: whether a buffer reached its bound, or the first breach; None where there are no bounds.
+fn watch_bounds(list: &List) -> Result<Option<bool>, String> {
+    let Ok(found) = bounds(&list.table) else {
+        return Ok(None);
+    };
+    let mut watch = Watch::new(&list.table, &found);
+    let mut record = Record::fresh(&list.table).expect("a good table");
+    for (k, call) in list.calls.iter().enumerate() {
+        let (_, entry) = run(&mut record, call);
+        let port = record.port().expect("counts within the arrays");
+        watch
+            .take(&entry)
+            .and_then(|()| watch.compare(&port))
+            .map_err(|breach| format!("report {k}: {breach}"))?;
+    }
+    Ok(Some(watch.reached() > 0))
 }
 
 #[cfg(test)]
@@ -321,7 +335,7 @@ mod tests {
     use super::*;
 
     #[test]
-    fn demand_3_holds_on_every_list() {
+    fn demand_3_and_the_counts_hold_on_every_list() {
         assert_eq!(watch().err(), None);
     }
 

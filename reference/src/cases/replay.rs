@@ -157,4 +157,15 @@ mod tests {
             assert!(text.contains(&format!("\nrefused {number}\n")), "{number}");
         }
     }
+
+    /// By the lines of the answers: the grand total is the number of accepted frame reports.
+    #[test]
+    fn the_counts_add_up() {
+        let text = String::from_utf8(files()[3].1.clone()).expect("plain text");
+        let answers = text.lines().zip(reports());
+        let accepted = answers.filter(|(line, r)| line.starts_with("accepted ") && r.frame.is_some()).count();
+        assert!(accepted > 300);
+        assert!(text.ends_with(&format!("\ntotal {accepted}\n")));
+        assert!(text.lines().any(|line| line.starts_with("unknown ") && line != "unknown 0"));
+    }
 }

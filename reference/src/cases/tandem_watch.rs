@@ -1,4 +1,4 @@
-//! Two ports in a row, watched.
+//! Two ports in a row, watched; and the counts of the second.
 
 use super::lists::List;
 use super::onward::{onward, Onward};
@@ -6,6 +6,7 @@ use super::tandem_lists::{departures, watched};
 use crate::next::{reported, run, Departure, Second, Turn};
 use crate::port::{Answer, Report, DROPPED, MOST_FRAMES, POLICED};
 use crate::random::Random;
+use crate::watch::watch_counts;
 
 /// How often each list is tried, with another second port each time.
 const TRIES: usize = 2;
@@ -20,6 +21,8 @@ struct Seen {
     without_room: usize,
     sized: usize,
     others: usize,
+    /// Accepted frame reports to second ports.
+    counted: u64,
     /// Second ports that would police a departure if each jitter were less by one, or as in the first table.
     policed_with_less: usize,
     policed_with_the_first: usize,
@@ -75,6 +78,7 @@ fn watch_one(
             second.look(*number, answer).map_err(|breach| format!("at {tick}: {breach}"))?;
         }
     }
+    seen.counted += watch_counts(&on.table, &calls)?;
     let rows = usize::from(list.table.count);
     let less = |i: usize, jitter: u32| if i < rows { jitter.saturating_sub(1) } else { jitter };
     let first = |i: usize, jitter: u32| if i < rows { list.table.links[i].jitter } else { jitter };
@@ -108,7 +112,7 @@ pub fn watch() -> Result<String, String> {
     let seen = seen()?;
     Ok(format!(
         "two ports watched: {} lists, {} second ports, {} of them with sizes at least their bounds; {} departures accepted, {} \
-         of them dropped, {} without room; {} other reports; no breach; a jitter less by one is too little in {}, the \
+         of them dropped, {} without room; {} other reports; {} frame reports counted; no breach; a jitter less by one is too little in {}, the \
          first table's in {}\n",
         seen.lists,
         seen.seconds,
@@ -117,6 +121,7 @@ pub fn watch() -> Result<String, String> {
         seen.dropped,
         seen.without_room,
         seen.others,
+        seen.counted,
         seen.policed_with_less,
         seen.policed_with_the_first
     ))
@@ -131,6 +136,7 @@ mod tests {
         let seen = seen().expect("no breach");
         assert!(seen.lists >= 400 && seen.sized >= 400 && seen.departures >= 10_000);
         assert!(seen.dropped >= 1_000 && seen.without_room >= 500 && seen.others >= 5_000);
+        assert!(seen.counted >= 10_000);
         assert!(seen.policed_with_less >= 100 && seen.policed_with_the_first >= 150);
     }
 }
