@@ -1,9 +1,13 @@
 //! The batch in plain Rust on flat arrays: rings of 256 slots, three numbers a slot, in one array; nothing is copied.
 
-use crate::tables::{read, Table, UNKEPT};
+use crate::tables::{read, Table, FULL_COUNT, UNKEPT};
+use std::hint::black_box;
 
 const SLOTS: u64 = 256;
 const LAST_TICK: u64 = (1 << 48) - 1;
+
+/// Where frames with an unknown number are counted: behind five words a link.
+const UNKNOWN: usize = 5 * 256;
 
 /// Of a link: line, priority, BAG, BAG and jitter, least and greatest length.
 type Plan = [u64; 6];
@@ -23,6 +27,8 @@ struct Port {
     ticks: [u64; 24],
     credits: [u64; 256],
     since: [u64; 256],
+    /// Five words a link, of which the first four count its verdicts.
+    counted: [u64; UNKNOWN + 1],
     clock: u64,
     sending: Option<(usize, u64)>,
     frames_held: u64,
@@ -65,6 +71,7 @@ impl Port {
             ticks: [0; 24],
             credits: plans.map(|plan| plan[3]),
             since: [0; 256],
+            counted: [0; UNKNOWN + 1],
             clock: 0,
             sending: None,
             frames_held: 0,
@@ -122,10 +129,33 @@ impl Port {
         left as u64
     }
 
+    fn place(&self, number: u64) -> Option<usize> {
+        let wanted = u16::try_from(number).ok()?;
+        self.numbers[..self.count].binary_search(&wanted).ok()
+    }
+
+    /// A full count rises no more.
+    fn count(&mut self, word: usize) {
+        let count = &mut self.counted[word];
+        if *count < FULL_COUNT {
+            *count += 1;
+        }
+    }
+
+    /// Not inlined, so that a wait does not pay for what a frame needs.
+    #[inline(never)]
     fn judge(&mut self, time: u64, line: u64, number: u64, length: u64) -> u64 {
         self.ticks[line as usize] = time;
-        let Ok(wanted) = u16::try_from(number) else { return 1 };
-        let Ok(i) = self.numbers[..self.count].binary_search(&wanted) else { return 1 };
+        let Some(i) = self.place(number) else {
+            self.count(UNKNOWN);
+            return 1;
+        };
+        let verdict = self.verdict(i, time, line, number, length);
+        self.count(5 * i + verdict as usize);
+        verdict
+    }
+
+    fn verdict(&mut self, i: usize, time: u64, line: u64, number: u64, length: u64) -> u64 {
         let [on, priority, bag, full, least, greatest] = self.plans[i];
         if on != line || length < least || greatest < length {
             return 1;
@@ -185,5 +215,7 @@ pub fn batch(file: &[u8], reports: &[u8], answers: &mut [u8], departures: &mut [
         put_row(answer, row);
         at += 24 * row[2] as usize;
     }
+    // The counts are kept, though nothing reads them here.
+    black_box(&port);
     0
 }

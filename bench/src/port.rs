@@ -2,7 +2,7 @@
 //! before it. The product, in a program of its own that makes four reports in a row, over and over, beside a plain Rust
 //! port that is lent and not copied.
 
-use crate::tables::{carried, file_of, promise, Table, UNKEPT};
+use crate::tables::{carried, file_of, promise, Table, FULL_COUNT, UNKEPT};
 use crate::traffic;
 use std::hint::black_box;
 use std::io::Write;
@@ -46,6 +46,17 @@ struct Port {
     queues: [Queue; 8],
     line_ticks: [u64; 24],
     accounts: [(u64, u64); 256],
+    /// Of each link, one per verdict.
+    counts: [[u64; 4]; 256],
+    /// Of frames with an unknown number.
+    unknown: u64,
+}
+
+/// A full count rises no more.
+fn count(one: &mut u64) {
+    if *one < FULL_COUNT {
+        *one += 1;
+    }
 }
 
 impl Port {
@@ -56,7 +67,8 @@ impl Port {
             Queue { mark: 16_384, frames: vec![frame; each[p]] }
         };
         let queues = std::array::from_fn(queue);
-        Port { table, clock: 0, queues, line_ticks: [0; 24], accounts: [(137_500, 0); 256] }
+        let accounts = [(137_500, 0); 256];
+        Port { table, clock: 0, queues, line_ticks: [0; 24], accounts, counts: [[0; 4]; 256], unknown: 0 }
     }
 
     fn fit(&self) -> bool {
@@ -74,7 +86,8 @@ impl Port {
         let queues = self.queues.iter().enumerate().all(|(p, q)| self.queue_fit(p, q));
         let lines = self.line_ticks.iter().all(|&t| t <= self.clock);
         let accounts = self.accounts[..count].iter().all(|a| a.0 <= 137_500 && a.1 <= self.clock);
-        rising && ranges && carried(&promised) && queues && lines && accounts
+        let counts = self.unknown <= FULL_COUNT && self.counts[..count].iter().flatten().all(|&n| n <= FULL_COUNT);
+        rising && ranges && carried(&promised) && queues && lines && accounts && counts
     }
 
     fn queue_fit(&self, p: usize, q: &Queue) -> bool {
@@ -120,29 +133,42 @@ impl Port {
         }
         self.clock = tick;
         self.line_ticks[line as usize] = tick;
-        let links = &self.table.links[..usize::from(self.table.count)];
-        let Ok(i) = links.binary_search_by_key(&(number as u16), |v| v.number) else {
+        let Some(i) = self.place(number) else {
+            count(&mut self.unknown);
             return false;
         };
-        let v = links[i];
+        let verdict = self.judge(i, tick, line, length);
+        count(&mut self.counts[i][verdict]);
+        verdict == 0
+    }
+
+    fn place(&self, number: u64) -> Option<usize> {
+        let wanted = u16::try_from(number).ok()?;
+        let links = &self.table.links[..usize::from(self.table.count)];
+        links.binary_search_by_key(&wanted, |v| v.number).ok()
+    }
+
+    /// The verdict on a frame of this link.
+    fn judge(&mut self, i: usize, tick: u64, line: u64, length: u64) -> usize {
+        let v = self.table.links[i];
         if u64::from(v.line) != line || length < u64::from(v.least) || u64::from(v.greatest) < length {
-            return false;
+            return 1;
         }
         let account = &mut self.accounts[i];
         account.0 = (12_500 + u64::from(v.jitter)).min(account.0 + tick - account.1);
         account.1 = tick;
         if account.0 < 12_500 {
-            return false;
+            return 2;
         }
         account.0 -= 12_500;
         let queue = &mut self.queues[usize::from(v.priority)];
         let held = length as u32 - u32::from(UNKEPT) + queue.frames.iter().map(|f| u32::from(f.length - UNKEPT)).sum::<u32>();
         if held > self.table.sizes[usize::from(v.priority)] {
-            return false;
+            return 3;
         }
         queue.frames.push(Frame { number: v.number, length: length as u16, arrival: tick });
         queue.mark = queue.mark.max(held);
-        true
+        0
     }
 }
 

@@ -3,6 +3,9 @@
 /// What a buffer does not keep of a frame's length: held bytes and A_p take lengths less this.
 pub const UNKEPT: u16 = 20;
 
+/// A count of frames that rises no more.
+pub const FULL_COUNT: u64 = 1 << 52;
+
 #[derive(Clone, Copy, Default)]
 pub struct Link {
     pub number: u16,
