@@ -15,7 +15,8 @@ pub(crate) fn refusal(p: Port, report: Report, room: usize) -> u32
     let queues = p.queues;
     let sender = p.sender;
     let gate = p.gate;
-    let checked = port_record_fitness::fit(t, p.clock, queues, sender, gate, &p.counts, p.unknown);
+    let counts = p.counts;
+    let checked = port_record_fitness::fit(t, p.clock, queues, sender, gate, &counts, p.unknown);
     if !checked.fits {
         return 10;
     }

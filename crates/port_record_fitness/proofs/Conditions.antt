@@ -30,7 +30,7 @@ use Rattle.port_record_fitness.specs.Fitness.{tableFits, portFitness}
 
 -- eleven conditions are five: those on table and clock are one, those on queues and sender, and those on accounts
 grouped : (a b c d e f g h i j n q : Bool) → q ≡ allHold (c ∷ d ∷ e ∷ f ∷ []) →
-    allHold (a ∷ b ∷ c ∷ d ∷ e ∷ f ∷ g ∷ h ∷ i ∷ j ∷ n ∷ []) ≡ allHold (allHold (a ∷ b ∷ []) ∷ allHold (q ∷ j ∷ []) ∷ g ∷ allHold (h ∷ i ∷ []) ∷ n ∷ [])
+    allHold (a ∷ b ∷ c ∷ d ∷ e ∷ f ∷ g ∷ h ∷ i ∷ j ∷ n ∷ []) ≡ allHold (allHold (a ∷ b ∷ []) ∷ n ∷ allHold (q ∷ j ∷ []) ∷ g ∷ allHold (h ∷ i ∷ []) ∷ [])
 grouped a b c d e f g h i j n q x =
     same-truth _ _
     (λ (y : allHold (a ∷ b ∷ c ∷ d ∷ e ∷ f ∷ g ∷ h ∷ i ∷ j ∷ n ∷ []) ≡ true).
@@ -39,17 +39,17 @@ grouped a b c d e f g h i j n q x =
     let rest = all .1 .1 .1 .1 .1 .1 in
     true-all _ (
       true-all _ (all .0, (all .1 .0, tt)),
-      (true-all _ (x ∙ four, (rest .1 .1 .1 .0, tt)), (rest .0, (true-all _ (rest .1 .0, (rest .1 .1 .0, tt)), (rest .1 .1 .1 .1 .0, tt)))),
+      (rest .1 .1 .1 .1 .0, (true-all _ (x ∙ four, (rest .1 .1 .1 .0, tt)), (rest .0, (true-all _ (rest .1 .0, (rest .1 .1 .0, tt)), tt)))),
     ))
-    (λ (y : allHold (allHold (a ∷ b ∷ []) ∷ allHold (q ∷ j ∷ []) ∷ g ∷ allHold (h ∷ i ∷ []) ∷ n ∷ []) ≡ true).
+    (λ (y : allHold (allHold (a ∷ b ∷ []) ∷ n ∷ allHold (q ∷ j ∷ []) ∷ g ∷ allHold (h ∷ i ∷ []) ∷ []) ≡ true).
     let all = all-true _ y in
     let first = all-true (a ∷ b ∷ []) (all .0) in
-    let queued = all-true (q ∷ j ∷ []) (all .1 .0) in
+    let queued = all-true (q ∷ j ∷ []) (all .1 .1 .0) in
     let four = all-true (c ∷ d ∷ e ∷ f ∷ []) (sym x ∙ queued .0) in
-    let two = all-true (h ∷ i ∷ []) (all .1 .1 .1 .0) in
+    let two = all-true (h ∷ i ∷ []) (all .1 .1 .1 .1 .0) in
     true-all _ (
       first .0,
-      (first .1 .0, (four .0, (four .1 .0, (four .1 .1 .0, (four .1 .1 .1 .0, (all .1 .1 .0, (two .0, (two .1 .0, (queued .1 .0, (all .1 .1 .1 .1 .0, tt)))))))))),
+      (first .1 .0, (four .0, (four .1 .0, (four .1 .1 .0, (four .1 .1 .1 .0, (all .1 .1 .1 .0, (two .0, (two .1 .0, (queued .1 .0, (all .1 .0, tt)))))))))),
     ))
 
 queues-parts : (t : TableRecord) (clock : ℕ) (queues : List Queue) →
@@ -90,10 +90,10 @@ module _ (t : TableRecord) (clock : ℕ) (queues : List Queue) (sender : SenderR
   abbrev conditions : List Bool
   conditions =
       tableFits (tableRefusal (viewTable t)) clock
+      ∷ everyCount (λ count. leb count fullCount) (t .count) (viewCounts (t .count) counts unknown)
       ∷ allHold (queuesFit t clock queues ∷ senderFit clock (viewQueues queues) (viewSender sender) ∷ [])
       ∷ linesFit (gate .«line_ticks») (t .lines) clock
       ∷ allHold (ticksFit (gate .accounts) (t .count) clock ∷ creditsFit (gate .accounts) t ∷ [])
-      ∷ everyCount (λ count. leb count fullCount) (t .count) (viewCounts (t .count) counts unknown)
       ∷ []
 
   fit-shown : fits ≡ allHold conditions
@@ -107,4 +107,4 @@ module _ (t : TableRecord) (clock : ℕ) (queues : List Queue) (sender : SenderR
 
   -- all hold, that on the queues as it was told
   pub is-fit : {q : Fitness} → q ≡ queuesFitness t clock queues sender → AllTrue conditions → q ≡ portFitness t clock queues sender gate counts unknown
-  is-fit told all = told ∙ ap (λ (b : Bool). fitnessIf b (framesHeld (viewQueues queues))) (all .1 .0 ∙ sym (fit-shown ∙ true-all conditions all))
+  is-fit told all = told ∙ ap (λ (b : Bool). fitnessIf b (framesHeld (viewQueues queues))) (all .1 .1 .0 ∙ sym (fit-shown ∙ true-all conditions all))

@@ -35,6 +35,9 @@ pub fn fit(
     if !table_fits(table::check(t), clock) {
         return port_queue_fitness::unfit();
     }
+    if !counters::fit(counts, unknown, t.count) {
+        return port_queue_fitness::unfit();
+    }
     let queued = port_queue_fitness::queues_fit(t, queues, sender, clock);
     if !queued.fits {
         return port_queue_fitness::unfit();
@@ -45,9 +48,6 @@ pub fn fit(
     }
     let accounts = gate.accounts;
     if !port_fitness::accounts_fit(accounts, t, clock) {
-        return port_queue_fitness::unfit();
-    }
-    if !counters::fit(counts, unknown, t.count) {
         return port_queue_fitness::unfit();
     }
     queued

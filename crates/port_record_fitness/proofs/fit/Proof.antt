@@ -35,44 +35,44 @@ returns c =
     let a = c .before .before .before .before .before .args in
     is-unfit (a .t) (a .clock) (a .queues) (a .sender) (a .gate) (a .counts .now) (a .unknown) 0 (c .unfit .ensures) (tested (c .before .before) ∙ not-true (c .before .before .table-fits .result) (c .before .if1 .taken))
 
-queues-fit-requires : tie.Need-queues-fit-requires
-queues-fit-requires c κs = passes (c .before) (c .if1 .left)
+fit-requires : tie.Need-fit-requires
+fit-requires c κs =
+    let s = c .before .before .before .before in
+    omega (arith, s .pre, counts-pass (s .args .t) (passes (c .before) (c .if1 .left)) .links-most)
 
 unfit-requires-2 : tie.Need-unfit-requires-2
 unfit-requires-2 c κs = search needs
 
 returns-2 : tie.Need-returns-2
 returns-2 c =
-    let a = c .before .before .before .before .before .before .before .before .args in
-    is-unfit (a .t) (a .clock) (a .queues) (a .sender) (a .gate) (a .counts .now) (a .unknown) 1 (c .unfit2 .ensures)
-    (sym (ap (λ (q : Fitness). q .fits) (c .before .before .before .queues-fit .ensures)) ∙ not-true (c .before .before .before .queues-fit .result .fits) (c .before .if2 .taken))
+    let a = c .before .before .before .before .before .before .before .args in
+    is-unfit (a .t) (a .clock) (a .queues) (a .sender) (a .gate) (a .counts .now) (a .unknown) 1 (c .unfit2 .ensures) (sym (c .before .before .fit .ensures) ∙ not-true (c .before .before .fit .result) (c .before .if2 .taken))
 
-lines-fit-requires : tie.Need-lines-fit-requires
-lines-fit-requires c κs = counts-pass (c .before .before .before .before .before .before .before .before .args .t) (passes (c .before .before .before .before .before) (c .before .before .before .before .if1 .left)) .lines-most
+queues-fit-requires : tie.Need-queues-fit-requires
+queues-fit-requires c κs = passes (c .before .before .before) (c .before .before .if1 .left)
 
 unfit-requires-3 : tie.Need-unfit-requires-3
 unfit-requires-3 c κs = search needs
 
 returns-3 : tie.Need-returns-3
 returns-3 c =
-    let a = c .before .before .before .before .before .before .before .before .before .before .before .args in
-    is-unfit (a .t) (a .clock) (a .queues) (a .sender) (a .gate) (a .counts .now) (a .unknown) 2 (c .unfit3 .ensures) (sym (c .before .before .lines-fit .ensures) ∙ not-true (c .before .before .lines-fit .result) (c .before .if3 .taken))
+    let a = c .before .before .before .before .before .before .before .before .before .before .args in
+    is-unfit (a .t) (a .clock) (a .queues) (a .sender) (a .gate) (a .counts .now) (a .unknown) 2 (c .unfit3 .ensures)
+    (sym (ap (λ (q : Fitness). q .fits) (c .before .before .before .queues-fit .ensures)) ∙ not-true (c .before .before .before .queues-fit .result .fits) (c .before .if3 .taken))
 
-accounts-fit-requires : tie.Need-accounts-fit-requires
-accounts-fit-requires c κs = counts-pass (c .before .before .before .before .before .before .before .before .before .before .before .args .t) (passes (c .before .before .before .before .before .before .before .before) (c .before .before .before .before .before .before .before .if1 .left)) .links-most
+lines-fit-requires : tie.Need-lines-fit-requires
+lines-fit-requires c κs = counts-pass (c .before .before .before .before .before .before .before .before .before .before .args .t) (passes (c .before .before .before .before .before .before .before) (c .before .before .before .before .before .before .if1 .left)) .lines-most
 
 unfit-requires-4 : tie.Need-unfit-requires-4
 unfit-requires-4 c κs = search needs
 
 returns-4 : tie.Need-returns-4
 returns-4 c =
-    let a = c .before .before .before .before .before .before .before .before .before .before .before .before .before .before .args in
-    is-unfit (a .t) (a .clock) (a .queues) (a .sender) (a .gate) (a .counts .now) (a .unknown) 3 (c .unfit4 .ensures) (sym (c .before .before .accounts-fit .ensures) ∙ not-true (c .before .before .accounts-fit .result) (c .before .if4 .taken))
+    let a = c .before .before .before .before .before .before .before .before .before .before .before .before .before .args in
+    is-unfit (a .t) (a .clock) (a .queues) (a .sender) (a .gate) (a .counts .now) (a .unknown) 3 (c .unfit4 .ensures) (sym (c .before .before .lines-fit .ensures) ∙ not-true (c .before .before .lines-fit .result) (c .before .if4 .taken))
 
-fit-requires : tie.Need-fit-requires
-fit-requires c κs =
-    let s = c .before .before .before .before .before .before .before .before .before .before .before .before .before in
-    omega (arith, s .pre, counts-pass (s .args .t) (passes (c .before .before .before .before .before .before .before .before .before .before) (c .before .before .before .before .before .before .before .before .before .if1 .left)) .links-most)
+accounts-fit-requires : tie.Need-accounts-fit-requires
+accounts-fit-requires c κs = counts-pass (c .before .before .before .before .before .before .before .before .before .before .before .before .before .args .t) (passes (c .before .before .before .before .before .before .before .before .before .before) (c .before .before .before .before .before .before .before .before .before .if1 .left)) .links-most
 
 unfit-requires-5 : tie.Need-unfit-requires-5
 unfit-requires-5 c κs = search needs
@@ -80,21 +80,21 @@ unfit-requires-5 c κs = search needs
 returns-5 : tie.Need-returns-5
 returns-5 c =
     let a = c .before .before .before .before .before .before .before .before .before .before .before .before .before .before .before .before .args in
-    is-unfit (a .t) (a .clock) (a .queues) (a .sender) (a .gate) (a .counts .now) (a .unknown) 4 (c .unfit5 .ensures) (sym (c .before .before .fit .ensures) ∙ not-true (c .before .before .fit .result) (c .before .if5 .taken))
+    is-unfit (a .t) (a .clock) (a .queues) (a .sender) (a .gate) (a .counts .now) (a .unknown) 4 (c .unfit5 .ensures) (sym (c .before .before .accounts-fit .ensures) ∙ not-true (c .before .before .accounts-fit .result) (c .before .if5 .taken))
 
 returns-6 : tie.Need-returns-6
 returns-6 c =
     let a = c .before .before .before .before .before .before .before .before .before .before .before .before .before .before .before .args in
-    let queued = c .before .before .before .before .before .before .before .before .before .before .queues-fit in
+    let queued = c .before .before .before .before .before .before .before .before .queues-fit in
     is-fit (a .t) (a .clock) (a .queues) (a .sender) (a .gate) (a .counts .now) (a .unknown) (queued .ensures) (
       tested (c .before .before .before .before .before .before .before .before .before .before .before .before) ∙ not-false (c .before .before .before .before .before .before .before .before .before .before .before .before .table-fits .result) (c .before .before .before .before .before .before .before .before .before .before .before .if1 .left),
       (
-        sym (ap (λ (q : Fitness). q .fits) (queued .ensures)) ∙ not-false (queued .result .fits) (c .before .before .before .before .before .before .before .before .if2 .left),
+        sym (c .before .before .before .before .before .before .before .before .before .before .fit .ensures) ∙ not-false (c .before .before .before .before .before .before .before .before .before .before .fit .result) (c .before .before .before .before .before .before .before .before .before .if2 .left),
         (
-          sym (c .before .before .before .before .before .before .lines-fit .ensures) ∙ not-false (c .before .before .before .before .before .before .lines-fit .result) (c .before .before .before .before .before .if3 .left),
+          sym (ap (λ (q : Fitness). q .fits) (queued .ensures)) ∙ not-false (queued .result .fits) (c .before .before .before .before .before .before .if3 .left),
           (
-            sym (c .before .before .before .accounts-fit .ensures) ∙ not-false (c .before .before .before .accounts-fit .result) (c .before .before .if4 .left),
-            (sym (c .before .fit .ensures) ∙ not-false (c .before .fit .result) (c .if5 .left), tt),
+            sym (c .before .before .before .before .lines-fit .ensures) ∙ not-false (c .before .before .before .before .lines-fit .result) (c .before .before .before .if4 .left),
+            (sym (c .before .accounts-fit .ensures) ∙ not-false (c .before .accounts-fit .result) (c .if5 .left), tt),
           ),
         ),
       ),
@@ -108,16 +108,16 @@ fit-spec =
     table-fits-requires
     unfit-requires
     returns
-    queues-fit-requires
+    fit-requires
     unfit-requires-2
     returns-2
-    lines-fit-requires
+    queues-fit-requires
     unfit-requires-3
     returns-3
-    accounts-fit-requires
+    lines-fit-requires
     unfit-requires-4
     returns-4
-    fit-requires
+    accounts-fit-requires
     unfit-requires-5
     returns-5
     returns-6)
