@@ -135,7 +135,7 @@ line-none set ℓ (v ∷ links) e = go (set v) refl (line-none set ℓ links)
     go true q ih = absurd (let z : _≡_ {A = ℕ} 0 1 = let y : true ≡ false = rw q at e in cc in omega arith)
     go false q ih = rw q (ih (rw q at e))
 
-sumTo-none : (f : ℕ → ℕ) (n : ℕ) → ((k : ℕ) → f k ≡ 0) → sumTo f n ≡ 0
+pub sumTo-none : (f : ℕ → ℕ) (n : ℕ) → ((k : ℕ) → f k ≡ 0) → sumTo f n ≡ 0
 unfolding sumTo
 sumTo-none f zero h = refl
 sumTo-none f (suc n) h = omega (arith, sumTo-none f n h, h n)

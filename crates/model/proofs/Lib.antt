@@ -69,4 +69,5 @@ pub mod FullExamples
 pub mod BatchExamples
 pub mod NextExamples
 pub mod LineExamples
+pub mod CountExamples
 pub mod Theorems

@@ -1,20 +1,23 @@
 -- The ten marked examples of the paper, a to j, and ours: k to y, windows, a full buffer (table C), whole answers and sheets, the words of
--- demand 3, networks A and B, batches, the next switch on the way, and lines oversold, as one list.
+-- demand 3, networks A and B, batches, the next switch on the way, lines oversold, and counts, as one list.
 use mathlib.Core.Path.{_≡_}
 use mathlib.Core.Bool.{true, false}
 use mathlib.Core.List.{List, [], _∷_, _++_, map, reverse}
-use Prim.Native.Nat.{ℕ, zero, suc, _+_, _-_}
+use Prim.Native.Nat.{ℕ, zero, suc, _+_, _-_, _*_}
 use Prim.Native.String.{String}
 use lib.ListN.{length, take, set, replicate}
 use Rattle.model.specs.Basics.{eight, Each}
+use Rattle.model.specs.Units.{fullCount}
 use Rattle.model.specs.Link.{VirtualLink, bagOf, standardBags, linkAt}
 use Rattle.model.specs.Table.{Table, blankTable, tableRefusal}
 use Rattle.model.specs.TableFile.{tableBytes, readTable, writeTable}
 use Rattle.model.specs.Bounds.{boundsRefusal, hold, bound, window, Sizing, sizing}
 use Rattle.model.specs.Machine.{Frame, queueOf}
-use Rattle.model.specs.Port.{markOf, fresh}
+use Rattle.model.specs.Counters.{Counters, noneCounted}
+use Rattle.model.specs.Port.{Port, markOf, fresh, withCounters}
 use Rattle.model.specs.Fitness.{fit}
-use Rattle.model.specs.Report.{Report, wait, frame, Answer, Call, arrived}
+use Rattle.model.specs.Sums.{Sums, sums}
+use Rattle.model.specs.Report.{Report, wait, frame, Answer, Call, arrived, step}
 use Rattle.model.specs.Sheet.{text, sheet}
 use Rattle.model.specs.NextTable.{Next, next}
 use Rattle.model.specs.Run.{Entry, run, storedBy, policedBy, droppedBy, passedBy, throughBy, heldOf, mostHeld, ticksOf, LinkKeeps}
@@ -77,6 +80,9 @@ pub data Example : Type 0 where
   writing-meets : Table → ℕ → ℕ → Example
   -- a table whose port, fresh but for the check of the table, is not fit
   unfit : Table → Example
+  -- a table, to whose port, fresh but for those counters, calls go in order: the refusal, or 0, and the verdict of each; the counters after
+  -- them, and what the call for their sums gives
+  gives-counts : Table → Counters → List Call → List (List ℕ) → Counters → Sums → Example
 
 -- the log of calls in order, the latest first
 abbrev pub logOf : Table → List Call → List Entry
@@ -101,6 +107,15 @@ fates n log =
       passed = ticksOf passedBy n log;
       through = ticksOf throughBy n log;
     }
+
+-- the port after calls in order; and the refusal, or 0, and the verdict of each
+unfoldable pub portAfter : Table → Port → List Call → Port
+portAfter t s [] = s
+portAfter t s (c ∷ calls) = portAfter t (step t s c .port) calls
+
+unfoldable pub rulings : Table → Port → List Call → List (List ℕ)
+rulings t s [] = []
+rulings t s (c ∷ calls) = let x = step t s c in (x .answer .refused ∷ x .answer .verdict ∷ []) ∷ rulings t (x .port) calls
 
 unfoldable pub Correct : Example → Type 0
 Correct (gives-bound t p b h w) = (hold t p ≡ h) × (bound t p ≡ b) × (window t p ≡ w)
@@ -133,6 +148,9 @@ Correct (meets t n) = tableRefusal t ≡ n
 Correct (reading-meets file n) = readTable file .refused ≡ n
 Correct (writing-meets t room n) = writeTable t (replicate room 0) .refused ≡ n
 Correct (unfit t) = fit t (fresh t) ≡ false
+Correct (gives-counts t before calls ruled after expected) =
+    let s = withCounters (fresh t) before in
+    (rulings t s calls ≡ ruled) × (portAfter t s calls .counters ≡ after) × (sums t (portAfter t s calls) ≡ expected)
 
 -- ---- shorthand: number, line, priority, greatest length; "All codes and jitter 0 unless named"
 abbrev pub plain : ℕ → ℕ → ℕ → ℕ → VirtualLink
@@ -901,6 +919,89 @@ carriage =
     ∷ fullCut ∷ fullCutHeader ∷ fullOtherKind ∷ fullLargeSize ∷ fullByteBehind ∷ tenthCut ∷ tenthPast ∷ tenthRepeated
     ∷ overWritten ∷ fullWritten ∷ nextOver ∷ overUnfit ∷ []
 
+-- ---- counts
+
+abbrev pub countersE : ℕ → ℕ → ℕ → ℕ → List ℕ → ℕ → Counters
+countersE stored filtered policed dropped second unknown = record { links = (stored ∷ filtered ∷ policed ∷ dropped ∷ []) ∷ second ∷ []; unknown = unknown }
+
+abbrev pub summed : ℕ → ℕ → ℕ → Sums
+summed first second total = record { refused = 0; sums = first ∷ second ∷ []; hasTotal = true; total = total }
+
+abbrev pub unsummed : ℕ → ℕ → Sums
+unsummed first second = record { refused = 0; sums = first ∷ second ∷ []; hasTotal = false; total = 0 }
+
+-- "Table E; (tick, line, number, length) and what comes of it: (1001, 0, 1, 500) 0; (13500, 0, 1, 500) 2; (13900, 1, 1, 300) 1; (14001, 0, 1,
+-- 501) 1; (14200, 0, 9, 84) 1; (14300, 0, 65537, 84) 1; (14310, 0, 1, 84) refused 15; wait 15000; (15000, 7, 1, 84) refused 13; (16000, 1, 2,
+-- 1000) 0. Counts .. of link 1: 1, 2, 1, 0; of link 2: 1, 0, 0, 0; unknown 2; sums 4 and 1; total 7"
+abbrev pub rigDay : Example
+rigDay =
+    gives-counts tableE (noneCounted 2)
+    (
+    lent (frame 1_001 0 1 500)
+    ∷ lent (frame 13_500 0 1 500)
+    ∷ lent (frame 13_900 1 1 300)
+    ∷ lent (frame 14_001 0 1 501)
+    ∷ lent (frame 14_200 0 9 84)
+    ∷ lent (frame 14_300 0 65_537 84)
+    ∷ lent (frame 14_310 0 1 84)
+    ∷ lent (wait 15_000)
+    ∷ lent (frame 15_000 7 1 84)
+    ∷ lent (frame 16_000 1 2 1_000)
+    ∷ []
+    )
+    (
+    (0 ∷ 0 ∷ [])
+    ∷ (0 ∷ 2 ∷ [])
+    ∷ (0 ∷ 1 ∷ [])
+    ∷ (0 ∷ 1 ∷ [])
+    ∷ (0 ∷ 1 ∷ [])
+    ∷ (0 ∷ 1 ∷ [])
+    ∷ (15 ∷ 0 ∷ [])
+    ∷ (0 ∷ 0 ∷ [])
+    ∷ (13 ∷ 0 ∷ [])
+    ∷ (0 ∷ 0 ∷ [])
+    ∷ []
+    )
+    (countersE 1 2 1 0 (1 ∷ 0 ∷ 0 ∷ 0 ∷ []) 2)
+    (summed 4 1 7)
+
+-- "A record of E with link 1's stored count at 2^52 − 1 and all others 0 has a total; one more stored: 2^52, the sum is given, no total;
+-- again: stays"
+abbrev pub storedE : ℕ → Counters
+storedE stored = countersE stored 0 0 0 (0 ∷ 0 ∷ 0 ∷ 0 ∷ []) 0
+
+abbrev pub nearlyFull : Example
+nearlyFull = gives-counts tableE (storedE (fullCount - 1)) [] [] (storedE (fullCount - 1)) (summed (fullCount - 1) 0 (fullCount - 1))
+
+abbrev pub nowFull : Example
+nowFull = gives-counts tableE (storedE (fullCount - 1)) (lent (frame 1_001 0 1 500) ∷ []) ((0 ∷ 0 ∷ []) ∷ []) (storedE fullCount) (unsummed fullCount 0)
+
+abbrev pub staysFull : Example
+staysFull =
+    gives-counts tableE (storedE (fullCount - 1)) (lent (frame 1_001 0 1 500) ∷ lent (frame 13_501 0 1 500) ∷ []) ((0 ∷ 0 ∷ []) ∷ (0 ∷ 0 ∷ []) ∷ [])
+    (storedE fullCount) (unsummed fullCount 0)
+
+-- "2^52 + 1: refused with 10", the report and the call
+abbrev pub pastFull : Example
+pastFull =
+    gives-counts tableE (storedE (suc fullCount)) (lent (frame 1_001 0 1 500) ∷ []) ((10 ∷ 0 ∷ []) ∷ [])
+    (storedE (suc fullCount)) (record { refused = 10; sums = []; hasTotal = false; total = 0 })
+
+-- "All nine counts of table E at 2^52 − 1: total 9 × (2^52 − 1)": no sum is too large for one
+abbrev pub allNearlyFull : Example
+allNearlyFull =
+    let n = fullCount - 1 in
+    gives-counts tableE (countersE n n n n (replicate 4 n) n) [] [] (countersE n n n n (replicate 4 n) n) (summed (4 * n) (4 * n) (9 * n))
+
+-- the unknown count is full, and an unknown number comes
+abbrev pub unknownFull : Example
+unknownFull =
+    gives-counts tableE (countersE 0 0 0 0 (0 ∷ 0 ∷ 0 ∷ 0 ∷ []) fullCount) (lent (frame 1_001 0 9 84) ∷ []) ((0 ∷ 1 ∷ []) ∷ [])
+    (countersE 0 0 0 0 (0 ∷ 0 ∷ 0 ∷ 0 ∷ []) fullCount) (unsummed 0 0)
+
+abbrev pub adding : List Example
+adding = rigDay ∷ nearlyFull ∷ nowFull ∷ staysFull ∷ pastFull ∷ allNearlyFull ∷ unknownFull ∷ []
+
 abbrev pub batches : List Example
 batches =
     batchTwo ∷ batchShort ∷ batchRest ∷ batchGoesOn ∷ batchUncut ∷ batchForm ∷ batchWideForm ∷ batchPart ∷ batchNoRoom ∷ batchBoth ∷ batchNone
@@ -916,7 +1017,7 @@ selections = map selects recordings
 abbrev pub examples : List Example
 examples =
     a ∷ b ∷ c ∷ d ∷ e ∷ f ∷ g ∷ h ∷ i ∷ j ∷ k ∷ l ∷ m ∷ n ∷ o ∷ p ∷ q ∷ r ∷ s ∷ t ∷ u ∷ v ∷ w ∷ x ∷ y
-    ∷ sizingE ∷ windowK ∷ windowP ∷ windowO0 ∷ windowO1 ∷ windowNt0 ∷ windowNt3 ∷ sizingNt ∷ boundC ∷ filledC ∷ sheetE ∷ sheetNt ∷ (words ++ (selections ++ (batches ++ (hops ++ carriage))))
+    ∷ sizingE ∷ windowK ∷ windowP ∷ windowO0 ∷ windowO1 ∷ windowNt0 ∷ windowNt3 ∷ sizingNt ∷ boundC ∷ filledC ∷ sheetE ∷ sheetNt ∷ (words ++ (selections ++ (batches ++ (hops ++ (carriage ++ adding)))))
 
 abbrev pub ExamplesCorrect : Type 0
 ExamplesCorrect = Each Correct examples
