@@ -28,7 +28,7 @@ pub record Shown (t : Table) (s : Port) (p size : ℕ) (queues : List (List Fram
 
 -- the port with these queues and marks, and all else as it is
 abbrev pub withQueues : Port → List (List Frame) → List ℕ → Port
-withQueues s queues marks = record { scheduler = at (s .scheduler .clock) queues (s .scheduler .sender); marks = marks; gate = s .gate }
+withQueues s queues marks = record { scheduler = at (s .scheduler .clock) queues (s .scheduler .sender); marks = marks; gate = s .gate; counters = s .counters }
 
 -- verdict and port are the model's
 pub record Settles (t : Table) (s : Port) (p : ℕ) (f : Frame) (verdict : ℕ) (queues : List (List Frame)) (marks : List ℕ) : Type 0 where
