@@ -2,7 +2,7 @@
 use mathlib.Core.Path.{_≡_}
 use mathlib.Core.List.{List, [], _∷_}
 use Prim.Native.Nat.{ℕ, suc, _+_, _*_, _<_}
-use lib.ListN.{getD}
+use lib.ListN.{length, getD}
 use Rattle.model.specs.Basics.{eight, entries}
 use Rattle.model.specs.Link.{VirtualLink, blankLink, placeOf}
 use Rattle.model.specs.Table.{Table}
@@ -55,7 +55,13 @@ pub record SizesPut (sizes : List ℕ) (n : ℕ) (words words' : List ℕ) : Typ
   pub here : (p : ℕ) → p < n → getD words' (2048 + p) 0 ≡ getD sizes p 0
   pub before : (k : ℕ) → k < 2048 → getD words' k 0 ≡ getD words k 0
 
--- ---- what the filter gives: the model's place, which is one of the table's
-pub record Admits (words numbers : List ℕ) (line number len : ℕ) (r : Place) : Type 0 where
-  pub place : viewPlace r ≡ admitted (viewWords words numbers) line len (placeOf number (viewWords words numbers .links))
+-- ---- a frame's link
+-- the place of a number: the model's, which is one of the table's
+pub record Finds (words numbers : List ℕ) (number : ℕ) (r : Place) : Type 0 where
+  pub place : viewPlace r ≡ placeOf number (viewWords words numbers .links)
   pub below : (i : ℕ) → r ≡ At i → i < getD words 2057 0
+
+-- the filter: of a place in the table, whatever its numbers, what the model's filter makes of it
+pub record Admits (words : List ℕ) (line len : ℕ) (place r : Place) : Type 0 where
+  pub filter-is : (numbers : List ℕ) → length numbers ≡ 256 → ((i : ℕ) → place ≡ At i → i < getD words 2057 0) → viewPlace r ≡ admitted (viewWords words numbers) line len (viewPlace place)
+  pub same : (i : ℕ) → r ≡ At i → place ≡ At i

@@ -15,7 +15,8 @@ ghost use Rattle.model.specs.Link.{bagOf};
 ghost use Rattle.model.specs.Table.{tableRefusal};
 ghost use Rattle.model.specs.Report.{admits as admitsFrame};
 ghost use Rattle.table.specs.View.{viewTable};
-ghost use Rattle.flat_table.specs.View.{linkOf, viewWords, LinkPut, LinksPut, SizesPut, Admits};
+ghost use Rattle.table_lookup.specs.declared.Place.the-variants.{At};
+ghost use Rattle.flat_table.specs.View.{linkOf, viewWords, LinkPut, LinksPut, SizesPut, Finds, Admits};
 
 fn put_link(words: &mut [u64], i: usize, v: VirtualLink)
     requires { ⌜ (length (now words) ≡ 2060) × (i < 256) ⌝ }
@@ -80,13 +81,21 @@ fn admits(words: &[u64], i: usize, line: u64, length: u64) -> bool
     length <= words[at + 5]
 }
 
-// The place of the link that has the frame's number, if it lets the frame through.
-pub fn admitted(words: &[u64], numbers: &[u16], line: u64, number: u64, length: u64) -> Place
-    requires { ⌜ (lib.ListN.length (now words) ≡ 2060) × (lib.ListN.length (now numbers) ≡ 256) × (tableRefusal (viewWords (now words) (now numbers)) ≡ 0) ⌝ }
-    ensures { λ r. ⌜ Admits (now (words .entry)) (now (numbers .entry)) line number «length» r ⌝ }
+// The place of the link that has a number.
+pub fn place(words: &[u64], numbers: &[u16], number: u64) -> Place
+    requires { ⌜ (length (now words) ≡ 2060) × (length (now numbers) ≡ 256) × (tableRefusal (viewWords (now words) (now numbers)) ≡ 0) ⌝ }
+    ensures { λ r. ⌜ Finds (now (words .entry)) (now (numbers .entry)) number r ⌝ }
 {
     let count = words[2057] as u16;
-    let Place::At(i) = table_lookup::place_of(numbers, count, number) else {
+    table_lookup::place_of(numbers, count, number)
+}
+
+// The same place, if the link there lets the frame through.
+pub fn admitted(words: &[u64], place: Place, line: u64, length: u64) -> Place
+    requires { ⌜ (lib.ListN.length (now words) ≡ 2060) × ((i : ℕ) → place ≡ At i → i < 256) ⌝ }
+    ensures { λ r. ⌜ Admits (now (words .entry)) line «length» place r ⌝ }
+{
+    let Place::At(i) = place else {
         return Place::Nowhere;
     };
     if admits(words, i, line, length) {
