@@ -6,7 +6,7 @@ use native.Mathlib.Omega.{arith}
 use lib.ListN.{length}
 use Rattle.model.specs.Table.{Table}
 use Rattle.model.specs.Machine.{at, advance}
-use Rattle.model.specs.Report.{Report, wait, frame, tickOf, reportRefusal, judgeReport}
+use Rattle.model.specs.Report.{Report, wait, frame, tickOf, reportRefusal}
 use Rattle.port_scheduler.specs.declared.Sender.{Sender as SenderRecord}
 use Rattle.port_scheduler.specs.View.{viewSender}
 use Rattle.flat_queues.specs.View.{ringsOf}
@@ -14,7 +14,7 @@ use Rattle.flat_scheduler.specs.Contracts.{Flat, Holds, Ready, Advanced}
 use Rattle.flat_table.specs.View.{viewWords}
 use Rattle.flat_port.specs.declared.State.{State}
 use Rattle.flat_port.specs.Lists.{Lists, queuesIn, viewState, Stands}
-use Rattle.flat_port.specs.Contracts.{Worded, Asked, refusalBy, Arrived, storedBy, Gives, Reports}
+use Rattle.flat_port.specs.Contracts.{Worded, Asked, refusalBy, Arrived, storedBy, judgeCounted, Gives, Reports}
 use Rattle.flat_port.proofs.Standing.{few-held, clocked, by-parts}
 use Rattle.flat_port.proofs.Reporting.{stateOf, reported, movedLists, is-refused, is-ready, few-freed, is-wait, is-arrived, is-frame}
 
@@ -58,7 +58,7 @@ module _ {words numbers : List ℕ} (w : Worded words numbers) {s : State} {l : 
           pub arrives : Arrived t (movedLists l heads counts held) line len
           arrives = is-arrived k r before ok sender (rw te at m) holds flat x
 
-          pub frames : {verdict left : ℕ} {l₂ : Lists} → Gives t (movedLists l heads counts held) (λ y. judgeReport t y (frame time line number len)) verdict l₂ →
+          pub frames : {verdict left : ℕ} {l₂ : Lists} → Gives t (movedLists l heads counts held) (judgeCounted t (frame time line number len)) verdict l₂ →
               left ≡ (s .frames - freed) + storedBy verdict → Reports t s l r before after (reported 0 verdict freed (stateOf time sender left)) l₂
           unfolding tickOf
           frames g n =

@@ -13,16 +13,19 @@ use Rattle.model.specs.Link.{VirtualLink, bag, linkAt, placeOf}
 use Rattle.model.specs.Table.{Table, sizeOf, tableRefusal}
 use Rattle.model.specs.Machine.{Frame, Sender, framesHeld}
 use Rattle.model.specs.Port.{Account, Gate, Port, blankAccount, accountAt, withGate, withLineTick, withAccount}
-use Rattle.model.specs.Report.{frame, Judged, judged, admitted, police, policeAt, passedIf, store, judge, judgeReport, arrived}
+use Rattle.model.specs.Report.{frame, Judged, judged, admitted, police, policeAt, passedIf, store, judge, judgeReport, arrived, countedBy}
 use Rattle.model.proofs.Entries.{getD-entries, entries-set}
 use Rattle.model.proofs.Passing.{Passing, is-passing}
+use Rattle.table_lookup.specs.declared.Place.{Place}
+use Rattle.table_lookup.specs.Places.{viewPlace}
+use Rattle.counters.specs.Contracts.{Within, Tallied}
 use Rattle.flat_queues.specs.View.{ringsOf}
 use Rattle.flat_policing.specs.Accounts.{accountsOf, Charges}
 use Rattle.flat_policing.proofs.Flat.{length-accounts}
 use Rattle.flat_scheduler.specs.Contracts.{Flat, Holds}
 use Rattle.flat_storing.specs.Storing.{Roomy, Shown, Settles, withQueues, Kept}
 use Rattle.flat_port.specs.Lists.{Lists, lists, queuesIn, viewLists, Sized}
-use Rattle.flat_port.specs.Contracts.{Arrived, storedBy, Gives}
+use Rattle.flat_port.specs.Contracts.{Arrived, storedBy, judgeCounted, Gives}
 
 pub is-stored : {n : ℕ} → n ≡ 0 → 1 ≡ storedBy n
 unfolding storedBy
@@ -40,11 +43,15 @@ stored-most (suc n) = omega arith
 
 -- the line's tick is set
 abbrev pub tickedLists : Lists → ℕ → ℕ → Lists
-tickedLists l line time = lists (l .frames) (l .heads) (l .counts) (l .held) (l .marks) (set (l .ticks) line time) (l .credits) (l .since)
+tickedLists l line time = lists (l .frames) (l .heads) (l .counts) (l .held) (l .marks) (set (l .ticks) line time) (l .credits) (l .since) (l .tallies)
 
 -- and credits are charged
 abbrev pub chargedLists : Lists → ℕ → ℕ → List ℕ → List ℕ → Lists
-chargedLists l line time credits since = lists (l .frames) (l .heads) (l .counts) (l .held) (l .marks) (set (l .ticks) line time) credits since
+chargedLists l line time credits since = lists (l .frames) (l .heads) (l .counts) (l .held) (l .marks) (set (l .ticks) line time) credits since (l .tallies)
+
+-- and a frame is counted
+abbrev pub talliedLists : Lists → List ℕ → Lists
+talliedLists l tallies = lists (l .frames) (l .heads) (l .counts) (l .held) (l .marks) (l .ticks) (l .credits) (l .since) tallies
 
 module _ {t : Table} {l : Lists} {line len : ℕ} (k : Arrived t l line len) (number time : ℕ) where
   passing : Passing t
@@ -56,7 +63,7 @@ module _ {t : Table} {l : Lists} {line len : ℕ} (k : Arrived t l line len) (nu
   ticked-shown : (clock : ℕ) (sender : Sender) → viewLists t clock sender (tickedLists l line time)
       ≡ withGate (viewLists t clock sender l) (withLineTick (viewLists t clock sender l .gate) line time)
   ticked-shown clock sender =
-      ap (λ (ticks : List ℕ). record { scheduler = viewLists t clock sender l .scheduler; marks = l .marks; gate = record { lineTicks = ticks; accounts = viewLists t clock sender l .gate .accounts } })
+      ap (λ (ticks : List ℕ). record { scheduler = viewLists t clock sender l .scheduler; marks = l .marks; gate = record { lineTicks = ticks; accounts = viewLists t clock sender l .gate .accounts }; counters = viewLists t clock sender l .counters })
       (entries-set 0 (t .lines) (l .ticks) line time (omega (arith, line-few, k .sized .ticks)))
 
   lines-stay : drop (t .lines) (set (l .ticks) line time) ≡ drop (t .lines) (l .ticks)
@@ -74,10 +81,26 @@ module _ {t : Table} {l : Lists} {line len : ℕ} (k : Arrived t l line len) (nu
       record {
         verdict-is = λ clock sender. rw (← e);
         port = λ clock sender. rw (← e) (ticked-shown clock sender);
-        sized = record { flat = k .sized .flat; marks = k .sized .marks; ticks = ticks-sized; credits = k .sized .credits; since = k .sized .since; holds = k .sized .holds };
+        sized = record { flat = k .sized .flat; marks = k .sized .marks; ticks = ticks-sized; credits = k .sized .credits; since = k .sized .since; tallies = k .sized .tallies; holds = k .sized .holds };
         frames = omega arith;
         lines-behind = lines-stay;
         accounts-behind = refl;
+        tallies-behind = λ j a b. refl;
+      }
+
+  -- the verdict leaves the counts; the frame is counted by its number
+  pub is-counted : {verdict : ℕ} {l₂ : Lists} → Gives t l verdictOf verdict l₂ → l₂ .tallies ≡ l .tallies → {place : Place} → viewPlace place ≡ placeOf number (t .links) → Within (length (t .links)) place →
+      {tallies : List ℕ} → Tallied place verdict (l .tallies) tallies → length tallies ≡ 1281 → Gives t l (judgeCounted t (frame time line number len)) verdict (talliedLists l₂ tallies)
+  unfolding countedBy
+  is-counted {verdict} {l₂} g e {place} found within {tallies} c size =
+      record {
+        verdict-is = g .verdict-is;
+        port = λ clock sender. rw (← g .port clock sender, ← g .verdict-is clock sender, ← found, e, c .counted-is (length (t .links)) (passing .counts .links-most) within);
+        sized = record { flat = g .sized .flat; marks = g .sized .marks; ticks = g .sized .ticks; credits = g .sized .credits; since = g .sized .since; tallies = size; holds = g .sized .holds };
+        frames = g .frames;
+        lines-behind = g .lines-behind;
+        accounts-behind = g .accounts-behind;
+        tallies-behind = c .behind (length (t .links)) within;
       }
 
   module _ (i : ℕ) (e : some i ≡ admitted t line len (placeOf number (t .links))) (below : i < length (t .links)) where
@@ -135,10 +158,11 @@ module _ {t : Table} {l : Lists} {line len : ℕ} (k : Arrived t l line len) (nu
             record {
               verdict-is = λ clock sender. rw (judged-shown clock sender, q);
               port = λ clock sender. rw (judged-shown clock sender, q);
-              sized = record { flat = k .sized .flat; marks = k .sized .marks; ticks = ticks-sized; credits = credits-are; since = since-are; holds = k .sized .holds };
+              sized = record { flat = k .sized .flat; marks = k .sized .marks; ticks = ticks-sized; credits = credits-are; since = since-are; tallies = k .sized .tallies; holds = k .sized .holds };
               frames = omega arith;
               lines-behind = lines-stay;
               accounts-behind = accounts-stay;
+              tallies-behind = λ j a b. refl;
             }
 
         module _ (q : passed ≡ true) {p size : ℕ} (pe : p ≡ v .priority) (se : size ≡ sizeOf t p) where
@@ -148,7 +172,7 @@ module _ {t : Table} {l : Lists} {line len : ℕ} (k : Arrived t l line len) (nu
           pub is-settled : {verdict : ℕ} {frames counts held marks : List ℕ} →
               ((t' : Table) (s : Port) → Shown t' s p size (queuesIn l) (l .marks) → Settles t' s p f verdict (ringsOf frames (l .heads) counts) marks) →
               Holds held (ringsOf frames (l .heads) counts) → Kept (l .frames) (l .heads) (l .counts) (l .held) (l .marks) verdict frames counts held marks →
-              Flat frames (l .heads) counts → length marks ≡ 8 → Gives t l verdictOf verdict (lists frames (l .heads) counts held marks (set (l .ticks) line time) credits since)
+              Flat frames (l .heads) counts → length marks ≡ 8 → Gives t l verdictOf verdict (lists frames (l .heads) counts held marks (set (l .ticks) line time) credits since (l .tallies))
           unfolding passedIf storedBy
           is-settled {verdict} {frames} {counts} {held} {marks} s holds kept flat marks-are =
               let shown : (clock : ℕ) (sender : Sender) → Settles t (viewLists t clock sender l₂) p f verdict (ringsOf frames (l .heads) counts) marks =
@@ -156,10 +180,11 @@ module _ {t : Table} {l : Lists} {line len : ℕ} (k : Arrived t l line len) (nu
               record {
                 verdict-is = λ clock sender. rw (judged-shown clock sender, q, ← pe) (shown clock sender .verdict-is);
                 port = λ clock sender. rw (judged-shown clock sender, q, ← pe) (shown clock sender .port-is);
-                sized = record { flat = flat; marks = marks-are; ticks = ticks-sized; credits = credits-are; since = since-are; holds = holds };
+                sized = record { flat = flat; marks = marks-are; ticks = ticks-sized; credits = credits-are; since = since-are; tallies = k .sized .tallies; holds = holds };
                 frames = frames-more;
                 lines-behind = lines-stay;
                 accounts-behind = accounts-stay;
+                tallies-behind = λ j a b. refl;
               }
             where
               frames-more : framesHeld (ringsOf frames (l .heads) counts) ≡ framesHeld (queuesIn l) + storedBy verdict

@@ -2,14 +2,14 @@
 use mathlib.Core.Path.{_≡_, refl, sym, ap, _∙_}
 use mathlib.Core.Bool.{true}
 use mathlib.Core.List.{List}
-use Prim.Native.Nat.{ℕ, zero, suc, _+_, _-_, _≤_, _<_}
+use Prim.Native.Nat.{ℕ, zero, suc, _+_, _-_, _*_, _≤_, _<_}
 use native.Mathlib.Omega.{arith}
-use lib.ListN.{length, drop}
+use lib.ListN.{length, getD, drop}
 use Rattle.model.specs.Table.{Table}
 use Rattle.model.specs.Machine.{Sender, Scheduler, at, advance, framesHeld}
 use Rattle.model.specs.Port.{Port, withScheduler}
 use Rattle.model.specs.Fitness.{fit}
-use Rattle.model.specs.Report.{Report, wait, frame, tickOf, reportRefusal, Judged, judgeReport, refusal, acceptedOr, Stepped, step}
+use Rattle.model.specs.Report.{Report, wait, frame, tickOf, reportRefusal, Judged, judgeReport, countedBy, refusal, acceptedOr, Stepped, step}
 use Rattle.model.proofs.QueueSteps.{advance-clock}
 use Rattle.model.proofs.Stepping.{Timely, movedTo, Arrives}
 use Rattle.model.proofs.Accepted.{timely, enough, waits-too, arrives}
@@ -22,7 +22,7 @@ use Rattle.flat_scheduler.specs.Contracts.{Flat, Holds, Ready, Advanced}
 use Rattle.flat_port.specs.declared.State.{State}
 use Rattle.flat_port.specs.declared.Reported.{Reported}
 use Rattle.flat_port.specs.Lists.{Lists, lists, queuesIn, viewLists, viewState, Sized, Stands}
-use Rattle.flat_port.specs.Contracts.{Arrived, storedBy, Gives, stepOf, Reports}
+use Rattle.flat_port.specs.Contracts.{Arrived, storedBy, judgeCounted, Gives, stepOf, Reports}
 use Rattle.flat_port.proofs.Standing.{eight-queues, passes, ready, roomy}
 
 abbrev pub stateOf : ℕ → SenderRecord → ℕ → State
@@ -33,7 +33,7 @@ reported refused verdict frames state = record { refused = refused; verdict = ve
 
 -- the lists after an advance: the heads, the counts and the held bytes
 abbrev pub movedLists : Lists → List ℕ → List ℕ → List ℕ → Lists
-movedLists l heads counts held = lists (l .frames) heads counts held (l .marks) (l .ticks) (l .credits) (l .since)
+movedLists l heads counts held = lists (l .frames) heads counts held (l .marks) (l .ticks) (l .credits) (l .since) (l .tallies)
 
 module _ {t : Table} {s : State} {l : Lists} (k : Stands t s l) (r : Report) (before : List ℕ) where
   abbrev here : Port
@@ -59,6 +59,7 @@ module _ {t : Table} {s : State} {l : Lists} (k : Stands t s l) (r : Report) (be
         stands = k;
         lines-behind = refl;
         accounts-behind = refl;
+        tallies-behind = λ j a b. refl;
       }
 
   module _ (ok : reportRefusal t here r (length before) ≡ 0) where
@@ -82,7 +83,7 @@ module _ {t : Table} {s : State} {l : Lists} (k : Stands t s l) (r : Report) (be
       l₁ = movedLists l heads counts held
 
       pub sized₁ : Sized l₁
-      sized₁ = record { flat = flat; marks = k .sized .marks; ticks = k .sized .ticks; credits = k .sized .credits; since = k .sized .since; holds = holds }
+      sized₁ = record { flat = flat; marks = k .sized .marks; ticks = k .sized .ticks; credits = k .sized .credits; since = k .sized .since; tallies = k .sized .tallies; holds = holds }
 
       there : at (tickOf r) (ringsOf (l .frames) heads counts) (viewSender sender) ≡ advance (tickOf r) (here .scheduler) .scheduler
       there =
@@ -102,14 +103,15 @@ module _ {t : Table} {s : State} {l : Lists} (k : Stands t s l) (r : Report) (be
       -- verdict and port are those that the model gives to the port that has advanced
       -- an answer that is not refused
       abbrev judgement : Judged
-      judgement = judgeReport t (movedTo here (tickOf r)) r
+      judgement = judgeCounted t r (movedTo here (tickOf r))
 
       accepted : {verdict left : ℕ} {l₂ : Lists} → verdict ≡ judgement .verdict → viewLists t (tickOf r) (viewSender sender) l₂ ≡ judgement .port → Sized l₂ → left ≡ framesHeld (queuesIn l₂) →
           drop (t .lines) (l₂ .ticks) ≡ drop (t .lines) (l .ticks) →
           drop (length (t .links)) (accountsOf (l₂ .credits) (l₂ .since)) ≡ drop (length (t .links)) (accountsOf (l .credits) (l .since)) →
+          ((j : ℕ) → 5 * length (t .links) ≤ j → j < 1280 → getD (l₂ .tallies) j 0 ≡ getD (l .tallies) j 0) →
           Reports t s l r before after (reported 0 verdict freed (stateOf (tickOf r) sender left)) l₂
       unfolding acceptedOr
-      accepted {verdict} {left} {l₂} v p z n lines accounts =
+      accepted {verdict} {left} {l₂} v p z n lines accounts tallies =
           let e = sym accepted-step in
           let q = p ∙ ap (λ (x : Stepped). x .port) e in
           record {
@@ -121,11 +123,12 @@ module _ {t : Table} {s : State} {l : Lists} (k : Stands t s l) (r : Report) (be
             stands = record { sized = z; frames = n; fits = still-fit (viewLists t (tickOf r) (viewSender sender) l₂) q };
             lines-behind = lines;
             accounts-behind = accounts;
+            tallies-behind = tallies;
           }
 
       pub is-wait : {time : ℕ} → r ≡ wait time → Reports t s l r before after (reported 0 0 freed (stateOf (tickOf r) sender (s .frames - freed))) l₁
-      unfolding judgeReport
-      is-wait {time} e = accepted (rw e) (moved-shown ∙ rw e) sized₁ frames-left refl refl
+      unfolding judgeReport countedBy
+      is-wait {time} e = accepted (rw e) (moved-shown ∙ rw e) sized₁ frames-left refl refl (λ j a b. refl)
 
       module _ {time line number len : ℕ} (e : r ≡ frame time line number len) where
         ok' : reportRefusal t here (frame time line number len) (length before) ≡ 0
@@ -133,7 +136,7 @@ module _ {t : Table} {s : State} {l : Lists} (k : Stands t s l) (r : Report) (be
 
         -- a wait at that tick keeps fitness, and leaves the port that is judged
         fit-there : fit t (viewLists t (tickOf r) (viewSender sender) l₁) ≡ true
-        unfolding step acceptedOr judgeReport tickOf
+        unfolding step acceptedOr judgeReport countedBy tickOf
         fit-there =
             let w : reportRefusal t here (wait (tickOf r)) (length before) ≡ 0 = waits-too t here (length before) r ok in
             rw (moved-shown) (rw w at (fitness-kept t here (record { report = wait (tickOf r); list = before }) (eight-queues (k .sized)) (k .sized .marks) (k .fits) .0))
@@ -148,7 +151,7 @@ module _ {t : Table} {s : State} {l : Lists} (k : Stands t s l) (r : Report) (be
               room = roomy t (tickOf r) (viewSender sender) l₁ len sized₁ fit-there (a .long);
             }
 
-        pub is-frame : {verdict left : ℕ} {l₂ : Lists} → Gives t l₁ (λ x. judgeReport t x (frame time line number len)) verdict l₂ → left ≡ (s .frames - freed) + storedBy verdict →
+        pub is-frame : {verdict left : ℕ} {l₂ : Lists} → Gives t l₁ (judgeCounted t (frame time line number len)) verdict l₂ → left ≡ (s .frames - freed) + storedBy verdict →
             Reports t s l r before after (reported 0 verdict freed (stateOf (tickOf r) sender left)) l₂
         is-frame {verdict} {left} {l₂} g n =
             accepted
@@ -158,3 +161,4 @@ module _ {t : Table} {s : State} {l : Lists} (k : Stands t s l) (r : Report) (be
             (n ∙ rw frames-left (sym (g .frames)))
             (g .lines-behind)
             (g .accounts-behind)
+            (g .tallies-behind)

@@ -1,14 +1,14 @@
 -- What a report on flat lists asks and promises.
 use mathlib.Core.Path.{_≡_}
 use mathlib.Core.List.{List, [], _∷_}
-use Prim.Native.Nat.{ℕ, zero, suc, _+_, _≤_, _<_}
+use Prim.Native.Nat.{ℕ, zero, suc, _+_, _*_, _≤_, _<_}
 use lib.ListN.{length, getD, drop}
 use Rattle.model.specs.Basics.{entries, firstMet, firstRefusal}
 use Rattle.model.specs.Units.{occupied, mostFrames}
 use Rattle.model.specs.Table.{Table, sizeOf, tableRefusal}
 use Rattle.model.specs.Machine.{Sender, framesHeld}
-use Rattle.model.specs.Port.{Port}
-use Rattle.model.specs.Report.{Report, reportChecks, roomCheck, Judged, Stepped, step}
+use Rattle.model.specs.Port.{Port, withCounters}
+use Rattle.model.specs.Report.{Report, reportChecks, roomCheck, Judged, judged, judgeReport, countedBy, Stepped, step}
 use Rattle.port_refusals.specs.Reports.{Clocked}
 use Rattle.flat_policing.specs.Accounts.{accountsOf}
 use Rattle.flat_port.specs.declared.State.{State}
@@ -41,6 +41,10 @@ unfoldable pub storedBy : ℕ → ℕ
 storedBy zero = 1
 storedBy (suc n) = 0
 
+-- the model's verdict on a report to a port that has advanced to its tick, and the frame counted by it
+abbrev pub judgeCounted : Table → Report → Port → Judged
+judgeCounted t r s = let j = judgeReport t s r in judged (withCounters (j .port) (countedBy t r (j .verdict) (j .port .counters))) (j .verdict)
+
 -- verdict and port are those that the model gives, whatever the clock and whoever sends; what stands behind the table's counts stays
 pub record Gives (t : Table) (l : Lists) (judge : Port → Judged) (verdict : ℕ) (l' : Lists) : Type 0 where
   pub verdict-is : (clock : ℕ) (sender : Sender) → verdict ≡ judge (viewLists t clock sender l) .verdict
@@ -49,6 +53,7 @@ pub record Gives (t : Table) (l : Lists) (judge : Port → Judged) (verdict : �
   pub frames : framesHeld (queuesIn l') ≡ framesHeld (queuesIn l) + storedBy verdict
   pub lines-behind : drop (t .lines) (l' .ticks) ≡ drop (t .lines) (l .ticks)
   pub accounts-behind : drop (length (t .links)) (accountsOf (l' .credits) (l' .since)) ≡ drop (length (t .links)) (accountsOf (l .credits) (l .since))
+  pub tallies-behind : (k : ℕ) → 5 * length (t .links) ≤ k → k < 1280 → getD (l' .tallies) k 0 ≡ getD (l .tallies) k 0
 
 -- the answer, the port and the whole list afterwards are those of the model's step
 abbrev pub stepOf : Table → State → Lists → Report → List ℕ → Stepped
@@ -63,3 +68,4 @@ pub record Reports (t : Table) (s : State) (l : Lists) (r : Report) (before afte
   pub stands : Stands t (a .state) l'
   pub lines-behind : drop (t .lines) (l' .ticks) ≡ drop (t .lines) (l .ticks)
   pub accounts-behind : drop (length (t .links)) (accountsOf (l' .credits) (l' .since)) ≡ drop (length (t .links)) (accountsOf (l .credits) (l .since))
+  pub tallies-behind : (k : ℕ) → 5 * length (t .links) ≤ k → k < 1280 → getD (l' .tallies) k 0 ≡ getD (l .tallies) k 0

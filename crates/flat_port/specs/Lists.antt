@@ -10,12 +10,13 @@ use Rattle.model.specs.Machine.{Frame, Sender, at, framesHeld}
 use Rattle.model.specs.Port.{Port, blankAccount}
 use Rattle.model.specs.Fitness.{fit}
 use Rattle.port_scheduler.specs.View.{viewSender}
+use Rattle.counters.specs.View.{viewTallies}
 use Rattle.flat_queues.specs.View.{ringsOf}
 use Rattle.flat_policing.specs.Accounts.{accountsOf}
 use Rattle.flat_scheduler.specs.Contracts.{Flat, Holds}
 use Rattle.flat_port.specs.declared.State.{State}
 
--- the queues as rings, with the bytes that each holds; the marks; the line ticks; credits and the ticks of their last change
+-- the queues as rings, with the bytes that each holds; the marks; the line ticks; credits and the ticks of their last change; counts of frames
 pub record Lists : Type 0 where
   pub frames : List ℕ
   pub heads : List ℕ
@@ -25,10 +26,11 @@ pub record Lists : Type 0 where
   pub ticks : List ℕ
   pub credits : List ℕ
   pub since : List ℕ
+  pub tallies : List ℕ
 
-abbrev pub lists : List ℕ → List ℕ → List ℕ → List ℕ → List ℕ → List ℕ → List ℕ → List ℕ → Lists
-lists frames heads counts held marks ticks credits since =
-    record { frames = frames; heads = heads; counts = counts; held = held; marks = marks; ticks = ticks; credits = credits; since = since }
+abbrev pub lists : List ℕ → List ℕ → List ℕ → List ℕ → List ℕ → List ℕ → List ℕ → List ℕ → List ℕ → Lists
+lists frames heads counts held marks ticks credits since tallies =
+    record { frames = frames; heads = heads; counts = counts; held = held; marks = marks; ticks = ticks; credits = credits; since = since; tallies = tallies }
 
 abbrev pub queuesIn : Lists → List (List Frame)
 queuesIn l = ringsOf (l .frames) (l .heads) (l .counts)
@@ -40,6 +42,7 @@ viewLists t clock sender l =
       scheduler = at clock (queuesIn l) sender;
       marks = l .marks;
       gate = record { lineTicks = entries 0 (t .lines) (l .ticks); accounts = entries blankAccount (length (t .links)) (accountsOf (l .credits) (l .since)) };
+      counters = viewTallies (length (t .links)) (l .tallies);
     }
 
 abbrev pub viewState : Table → State → Lists → Port
@@ -52,6 +55,7 @@ pub record Sized (l : Lists) : Type 0 where
   pub ticks : length (l .ticks) ≡ 24
   pub credits : length (l .credits) ≡ 256
   pub since : length (l .since) ≡ 256
+  pub tallies : length (l .tallies) ≡ 1281
   pub holds : Holds (l .held) (queuesIn l)
 
 -- and the port is fit, and holds as many frames as the state says

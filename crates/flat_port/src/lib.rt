@@ -43,12 +43,13 @@ pub fn report(
     ticks: &mut [u64],
     credits: &mut [u64],
     since: &mut [u64],
+    tallies: &mut [u64],
     state: State,
     report: Report,
     list: &mut [u64],
 ) -> Reported
-    requires { ⌜ Worded (now words) (now numbers) × Stands (viewWords (now words) (now numbers)) state (lists (now frames) (now heads) (now counts) (now held) (now marks) (now ticks) (now credits) (now since)) ⌝ }
-    ensures { λ a. ⌜ Reports (viewWords (now (words .entry)) (now (numbers .entry))) state (lists (now (frames .entry)) (now (heads .entry)) (now (counts .entry)) (now (held .entry)) (now (marks .entry)) (now (ticks .entry)) (now (credits .entry)) (now (since .entry))) (viewReport report) (now (list .entry)) (now (list .exit)) a (lists (now (frames .exit)) (now (heads .exit)) (now (counts .exit)) (now (held .exit)) (now (marks .exit)) (now (ticks .exit)) (now (credits .exit)) (now (since .exit))) ⌝ }
+    requires { ⌜ Worded (now words) (now numbers) × Stands (viewWords (now words) (now numbers)) state (lists (now frames) (now heads) (now counts) (now held) (now marks) (now ticks) (now credits) (now since) (now tallies)) ⌝ }
+    ensures { λ a. ⌜ Reports (viewWords (now (words .entry)) (now (numbers .entry))) state (lists (now (frames .entry)) (now (heads .entry)) (now (counts .entry)) (now (held .entry)) (now (marks .entry)) (now (ticks .entry)) (now (credits .entry)) (now (since .entry)) (now (tallies .entry))) (viewReport report) (now (list .entry)) (now (list .exit)) a (lists (now (frames .exit)) (now (heads .exit)) (now (counts .exit)) (now (held .exit)) (now (marks .exit)) (now (ticks .exit)) (now (credits .exit)) (now (since .exit)) (now (tallies .exit))) ⌝ }
 {
     let refused = refusals::refusal(words, ticks, state, report, list.len());
     if refused != 0 {
@@ -96,6 +97,7 @@ pub fn report(
         ticks,
         credits,
         since,
+        tallies,
         line,
         number,
         length,
