@@ -4,7 +4,7 @@ use mathlib.Core.Bool.{Bool, true, false}
 use mathlib.Core.List.{List, [], _∷_, _++_, append-nil, append-assoc, flatMap}
 use Prim.Native.Nat.{ℕ, zero, suc, _+_, _-_, _*_, _/_, _≤_, _<_}
 use native.Mathlib.Omega.{arith}
-use lib.ListN.{length, take, drop, length-append, length-drop, take-append-drop, drop-of-length-le}
+use lib.ListN.{length, getD, take, drop, length-append, length-drop, take-append-drop, drop-of-length-le}
 use lib.Seq.{take-all, take-at, drop-at, drop-drop}
 use Rattle.model.specs.Basics.{Each, done, also}
 use Rattle.model.specs.Table.{Table}
@@ -42,6 +42,7 @@ pub record Progress (t : Table) (l₀ : Lists) (whole : Batched) (so-far : List 
   pub all-refused : accepted ≡ false → AllRefused so-far
   pub lines-behind : drop (t .lines) (l .ticks) ≡ drop (t .lines) (l₀ .ticks)
   pub accounts-behind : drop (length (t .links)) (accountsOf (l .credits) (l .since)) ≡ drop (length (t .links)) (accountsOf (l₀ .credits) (l₀ .since))
+  pub tallies-behind : (j : ℕ) → 5 * length (t .links) ≤ j → j < 1280 → getD (l .tallies) j 0 ≡ getD (l₀ .tallies) j 0
 
 pub at-start : {t : Table} {s : State} {l : Lists} (reports : List Report) (list : List ℕ) → Stands t s l → Progress t l (batchOf t s l reports list) [] reports list s l 0 0 false
 unfolding framesFreed flatMap
@@ -56,6 +57,7 @@ at-start {t} {s} {l} reports list k =
       all-refused = λ x. done;
       lines-behind = refl;
       accounts-behind = refl;
+      tallies-behind = λ j a b. refl;
     }
 
 pub at-end : {t : Table} {l₀ : Lists} {whole : Batched} {so-far : List Entry} {lent : List ℕ} {s : State} {l : Lists} {i written : ℕ} {accepted : Bool} →
@@ -70,6 +72,7 @@ at-end k =
       all-refused = λ x. rw e (k .all-refused x);
       lines-behind = k .lines-behind;
       accounts-behind = k .accounts-behind;
+      tallies-behind = k .tallies-behind;
     }
 
 -- ---- one report more
@@ -94,6 +97,7 @@ module _ {t : Table} {l₀ : Lists} {whole : Batched} {so-far : List Entry} {r :
         all-refused = λ q. each-of-both (k .all-refused (f .before q)) (also (λ z. f .this q (x .refused ∙ z)) done);
         lines-behind = x .lines-behind ∙ k .lines-behind;
         accounts-behind = x .accounts-behind ∙ k .accounts-behind;
+        tallies-behind = λ j a b. x .tallies-behind j a b ∙ k .tallies-behind j a b;
       }
 
 -- ---- the list whose rest is lent, numbers at its start

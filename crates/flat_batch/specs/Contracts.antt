@@ -2,8 +2,8 @@
 use mathlib.Core.Path.{_≡_}
 use mathlib.Core.Bool.{Bool, false}
 use mathlib.Core.List.{List, flatMap}
-use Prim.Native.Nat.{ℕ, _*_, _/_, _≤_}
-use lib.ListN.{length, drop}
+use Prim.Native.Nat.{ℕ, _*_, _/_, _≤_, _<_}
+use lib.ListN.{length, getD, drop}
 use Rattle.model.specs.Basics.{Each}
 use Rattle.model.specs.Table.{Table}
 use Rattle.model.specs.Report.{Report}
@@ -37,6 +37,7 @@ pub record Ends (t : Table) (l : Lists) (b : Batched) (r : Ran) (l' : Lists) : T
   pub all-refused : r .accepted ≡ false → AllRefused (b .entries)
   pub lines-behind : drop (t .lines) (l' .ticks) ≡ drop (t .lines) (l .ticks)
   pub accounts-behind : drop (length (t .links)) (accountsOf (l' .credits) (l' .since)) ≡ drop (length (t .links)) (accountsOf (l .credits) (l .since))
+  pub tallies-behind : (k : ℕ) → 5 * length (t .links) ≤ k → k < 1280 → getD (l' .tallies) k 0 ≡ getD (l .tallies) k 0
 
 -- answers and departures at the start of the two lists, and all behind them as found
 pub record Answers (b : Batched) (answers answers' list list' : List ℕ) : Type 0 where

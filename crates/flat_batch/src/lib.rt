@@ -57,13 +57,14 @@ pub fn run(
     ticks: &mut [u64],
     credits: &mut [u64],
     since: &mut [u64],
+    tallies: &mut [u64],
     start: State,
     reports: &[u64],
     answers: &mut [u64],
     list: &mut [u64],
 ) -> Ran
-    requires { ⌜ Worded (now words) (now numbers) × Stands (viewWords (now words) (now numbers)) start (lists (now frames) (now heads) (now counts) (now held) (now marks) (now ticks) (now credits) (now since)) × (3 * (length (now reports) / 5) ≤ length (now answers)) ⌝ }
-    ensures { λ r. ⌜ Ends (viewWords (now (words .entry)) (now (numbers .entry))) (lists (now (frames .entry)) (now (heads .entry)) (now (counts .entry)) (now (held .entry)) (now (marks .entry)) (now (ticks .entry)) (now (credits .entry)) (now (since .entry))) (batchOf (viewWords (now (words .entry)) (now (numbers .entry))) start (lists (now (frames .entry)) (now (heads .entry)) (now (counts .entry)) (now (held .entry)) (now (marks .entry)) (now (ticks .entry)) (now (credits .entry)) (now (since .entry))) (reportsIn (now (reports .entry))) (now (list .entry))) r (lists (now (frames .exit)) (now (heads .exit)) (now (counts .exit)) (now (held .exit)) (now (marks .exit)) (now (ticks .exit)) (now (credits .exit)) (now (since .exit))) × Answers (batchOf (viewWords (now (words .entry)) (now (numbers .entry))) start (lists (now (frames .entry)) (now (heads .entry)) (now (counts .entry)) (now (held .entry)) (now (marks .entry)) (now (ticks .entry)) (now (credits .entry)) (now (since .entry))) (reportsIn (now (reports .entry))) (now (list .entry))) (now (answers .entry)) (now (answers .exit)) (now (list .entry)) (now (list .exit)) ⌝ }
+    requires { ⌜ Worded (now words) (now numbers) × Stands (viewWords (now words) (now numbers)) start (lists (now frames) (now heads) (now counts) (now held) (now marks) (now ticks) (now credits) (now since) (now tallies)) × (3 * (length (now reports) / 5) ≤ length (now answers)) ⌝ }
+    ensures { λ r. ⌜ Ends (viewWords (now (words .entry)) (now (numbers .entry))) (lists (now (frames .entry)) (now (heads .entry)) (now (counts .entry)) (now (held .entry)) (now (marks .entry)) (now (ticks .entry)) (now (credits .entry)) (now (since .entry)) (now (tallies .entry))) (batchOf (viewWords (now (words .entry)) (now (numbers .entry))) start (lists (now (frames .entry)) (now (heads .entry)) (now (counts .entry)) (now (held .entry)) (now (marks .entry)) (now (ticks .entry)) (now (credits .entry)) (now (since .entry)) (now (tallies .entry))) (reportsIn (now (reports .entry))) (now (list .entry))) r (lists (now (frames .exit)) (now (heads .exit)) (now (counts .exit)) (now (held .exit)) (now (marks .exit)) (now (ticks .exit)) (now (credits .exit)) (now (since .exit)) (now (tallies .exit))) × Answers (batchOf (viewWords (now (words .entry)) (now (numbers .entry))) start (lists (now (frames .entry)) (now (heads .entry)) (now (counts .entry)) (now (held .entry)) (now (marks .entry)) (now (ticks .entry)) (now (credits .entry)) (now (since .entry)) (now (tallies .entry))) (reportsIn (now (reports .entry))) (now (list .entry))) (now (answers .entry)) (now (answers .exit)) (now (list .entry)) (now (list .exit)) ⌝ }
 {
     let n = reports.len() / 5;
     let mut state = start;
@@ -83,6 +84,7 @@ pub fn run(
             ticks,
             credits,
             since,
+            tallies,
             state,
             report,
             &mut list[3 * written..],
