@@ -56,6 +56,7 @@ module _ {t : Table} {s : State} {l : Lists} (k : Stands t s l) (r : Report) (cu
           stands = x .stands;
           lines-behind = x .lines-behind;
           accounts-behind = x .accounts-behind;
+          tallies-behind = x .tallies-behind;
         }
 
     pub departed-whole : departureNumbers (entryOf t (viewState t s l) r whole) ≡ take (3 * a .frames) part

@@ -38,13 +38,14 @@ pub fn run(
     ticks: &mut [u64],
     credits: &mut [u64],
     since: &mut [u64],
+    tallies: &mut [u64],
     start: State,
     reports: &[u8],
     answers: &mut [u8],
     list: &mut [u8],
 ) -> Ran
-    requires { ⌜ Worded (now words) (now numbers) × Stands (viewWords (now words) (now numbers)) start (lists (now frames) (now heads) (now counts) (now held) (now marks) (now ticks) (now credits) (now since)) × (3 * (length (now reports) / 40) ≤ length (now answers) / 8) ⌝ }
-    ensures { λ r. ⌜ Ends (viewWords (now (words .entry)) (now (numbers .entry))) (lists (now (frames .entry)) (now (heads .entry)) (now (counts .entry)) (now (held .entry)) (now (marks .entry)) (now (ticks .entry)) (now (credits .entry)) (now (since .entry))) (batchOf (viewWords (now (words .entry)) (now (numbers .entry))) start (lists (now (frames .entry)) (now (heads .entry)) (now (counts .entry)) (now (held .entry)) (now (marks .entry)) (now (ticks .entry)) (now (credits .entry)) (now (since .entry))) (reportsIn (numbersIn (now (reports .entry)))) (numbersIn (now (list .entry)))) r (lists (now (frames .exit)) (now (heads .exit)) (now (counts .exit)) (now (held .exit)) (now (marks .exit)) (now (ticks .exit)) (now (credits .exit)) (now (since .exit))) × BytesAnswers (batchOf (viewWords (now (words .entry)) (now (numbers .entry))) start (lists (now (frames .entry)) (now (heads .entry)) (now (counts .entry)) (now (held .entry)) (now (marks .entry)) (now (ticks .entry)) (now (credits .entry)) (now (since .entry))) (reportsIn (numbersIn (now (reports .entry)))) (numbersIn (now (list .entry)))) (now (answers .entry)) (now (answers .exit)) (now (list .entry)) (now (list .exit)) ⌝ }
+    requires { ⌜ Worded (now words) (now numbers) × Stands (viewWords (now words) (now numbers)) start (lists (now frames) (now heads) (now counts) (now held) (now marks) (now ticks) (now credits) (now since) (now tallies)) × (3 * (length (now reports) / 40) ≤ length (now answers) / 8) ⌝ }
+    ensures { λ r. ⌜ Ends (viewWords (now (words .entry)) (now (numbers .entry))) (lists (now (frames .entry)) (now (heads .entry)) (now (counts .entry)) (now (held .entry)) (now (marks .entry)) (now (ticks .entry)) (now (credits .entry)) (now (since .entry)) (now (tallies .entry))) (batchOf (viewWords (now (words .entry)) (now (numbers .entry))) start (lists (now (frames .entry)) (now (heads .entry)) (now (counts .entry)) (now (held .entry)) (now (marks .entry)) (now (ticks .entry)) (now (credits .entry)) (now (since .entry)) (now (tallies .entry))) (reportsIn (numbersIn (now (reports .entry)))) (numbersIn (now (list .entry)))) r (lists (now (frames .exit)) (now (heads .exit)) (now (counts .exit)) (now (held .exit)) (now (marks .exit)) (now (ticks .exit)) (now (credits .exit)) (now (since .exit)) (now (tallies .exit))) × BytesAnswers (batchOf (viewWords (now (words .entry)) (now (numbers .entry))) start (lists (now (frames .entry)) (now (heads .entry)) (now (counts .entry)) (now (held .entry)) (now (marks .entry)) (now (ticks .entry)) (now (credits .entry)) (now (since .entry)) (now (tallies .entry))) (reportsIn (numbersIn (now (reports .entry)))) (numbersIn (now (list .entry)))) (now (answers .entry)) (now (answers .exit)) (now (list .entry)) (now (list .exit)) ⌝ }
 {
     let n = reports.len() / 40;
     let whole = list.len() / 8;
@@ -67,6 +68,7 @@ pub fn run(
             ticks,
             credits,
             since,
+            tallies,
             state,
             report,
             &mut room[..most],
