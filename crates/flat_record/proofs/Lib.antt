@@ -1,3 +1,4 @@
 pub mod Copied
 pub mod Filled
 pub mod Reading
+pub mod Rows

@@ -1,7 +1,7 @@
 -- What the functions ask and promise.
 use mathlib.Core.Path.{_≡_}
 use mathlib.Core.List.{List, map}
-use Prim.Native.Nat.{ℕ, _≤_, _<_, _^_}
+use Prim.Native.Nat.{ℕ, _+_, _*_, _≤_, _<_, _^_}
 use lib.ListN.{length, getD, set}
 use Rattle.model.specs.Basics.{Each}
 use Rattle.model.specs.Units.{mostFrames}
@@ -10,6 +10,7 @@ use Rattle.port_policing.specs.declared.Account.{Account}
 use Rattle.port_policing.specs.Check.{viewAccount}
 use Rattle.port_scheduler.specs.declared.Queue.{Queue}
 use Rattle.port_scheduler.specs.View.{blankQueue, viewQueue, viewQueues, viewMarks}
+use Rattle.counters.specs.View.{viewCounts, viewTallies}
 use Rattle.flat_queues.specs.View.{ring, ringsOf}
 use Rattle.flat_policing.specs.Accounts.{accountsOf}
 
@@ -27,6 +28,20 @@ pub record AccountsPut (accounts : List Account) (credits since : List ℕ) : Ty
 pub record AccountsRead (credits since : List ℕ) (accounts : List Account) : Type 0 where
   pub accounts-are : map viewAccount accounts ≡ accountsOf credits since
   pub all : length accounts ≡ 256
+
+-- ---- counts
+-- the counts of the record, four a link and the unknown one, in a list
+pub record CountsPut (counts : List ℕ) (unknown : ℕ) (tallies : List ℕ) : Type 0 where
+  pub counters-are : (n : ℕ) → n ≤ 256 → viewTallies n tallies ≡ viewCounts n counts unknown
+  pub each : (i v : ℕ) → i < 256 → v < 4 → getD tallies (5 * i + v) 0 ≡ getD counts (4 * i + v) 0
+  pub unknown-is : getD tallies 1280 0 ≡ unknown
+  pub room : length tallies ≡ 1281
+
+-- the counts of a list, four a link, in a record
+pub record CountsRead (tallies counts : List ℕ) : Type 0 where
+  pub counters-are : (n : ℕ) → n ≤ 256 → viewCounts n counts (getD tallies 1280 0) ≡ viewTallies n tallies
+  pub each : (i v : ℕ) → i < 256 → v < 4 → getD counts (4 * i + v) 0 ≡ getD tallies (5 * i + v) 0
+  pub all : length counts ≡ 1024
 
 -- ---- queues
 -- eight rings of 256 slots, three numbers a slot

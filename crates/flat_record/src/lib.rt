@@ -1,4 +1,4 @@
-// Internal to the product: the queues and accounts of a port record as flat lists of numbers, and back.
+// Internal to the product: the queues, accounts and counts of a port record as flat lists of numbers, and back.
 use flat_queues::push;
 use flat_queues::slot;
 use numbers::u16_as_u64;
@@ -12,7 +12,7 @@ ghost use Prim.Native.Nat.{_+_, _≤_};
 ghost use lib.ListN.{length};
 ghost use Rattle.flat_queues.specs.View.{frameAt};
 ghost use Rattle.port_scheduler.specs.View.{viewFrame};
-ghost use Rattle.flat_record.specs.Contracts.{AccountLists, AccountsPut, AccountsRead};
+ghost use Rattle.flat_record.specs.Contracts.{AccountLists, AccountsPut, AccountsRead, CountsPut, CountsRead};
 ghost use Rattle.flat_record.specs.Contracts.{QueueFits, QueuePut, QueuesFit, QueuesPut};
 ghost use Rattle.flat_record.specs.Contracts.{Narrow, RingFits, RingRead, RingsFit, QueuesRead};
 
@@ -46,6 +46,43 @@ pub fn accounts_of(credits: &[u64], since: &[u64]) -> [Account; 256]
         i += 1;
     }
     accounts
+}
+
+// The counts of the links, four each, and that of unknown numbers, into a list that has five numbers a link.
+pub fn put_counts(counts: [u64; 1024], unknown: u64, tallies: &mut [u64])
+    requires { ⌜ length (now tallies) ≡ 1281 ⌝ }
+    ensures { λ _. ⌜ CountsPut counts unknown (now (tallies .exit)) ⌝ }
+{
+    let mut i: usize = 0;
+    while i < 256 {
+        let from = 4 * i;
+        let to = 5 * i;
+        tallies[to] = counts[from];
+        tallies[to + 1] = counts[from + 1];
+        tallies[to + 2] = counts[from + 2];
+        tallies[to + 3] = counts[from + 3];
+        i += 1;
+    }
+    tallies[1280] = unknown;
+}
+
+// The counts of the links in such a list.
+pub fn counts_of(tallies: &[u64]) -> [u64; 1024]
+    requires { ⌜ length (now tallies) ≡ 1281 ⌝ }
+    ensures { λ r. ⌜ CountsRead (now (tallies .entry)) r ⌝ }
+{
+    let mut counts = [0u64; 1024];
+    let mut i: usize = 0;
+    while i < 256 {
+        let from = 5 * i;
+        let to = 4 * i;
+        counts[to] = tallies[from];
+        counts[to + 1] = tallies[from + 1];
+        counts[to + 2] = tallies[from + 2];
+        counts[to + 3] = tallies[from + 3];
+        i += 1;
+    }
+    counts
 }
 
 // The queue into ring p.
