@@ -3,9 +3,11 @@ use mathlib.Core.Path.{_≡_, refl}
 use mathlib.Core.Bool.{true}
 use mathlib.Core.List.{List, []}
 use Prim.Native.Nat.{ℕ, _≤_}
+use native.Mathlib.Omega.{arith}
 use lib.ListN.{length, replicate, length-replicate, getD-replicate}
 use Rattle.model.specs.Table.{Table, tableRefusal}
 use Rattle.model.specs.Machine.{Frame, bytes, framesHeld}
+use Rattle.model.specs.Counters.{noneCounted}
 use Rattle.model.specs.Port.{fresh}
 use Rattle.model.specs.Fitness.{fit}
 use Rattle.model.specs.Report.{Report}
@@ -19,6 +21,8 @@ use Rattle.table.proofs.PassingRecord.{counts-pass}
 use Rattle.port_policing.specs.Full.{fullAccounts}
 use Rattle.port_policing.proofs.Full.{lines-at-rest, accounts-at-rest}
 use Rattle.port_scheduler.specs.declared.Sender.the-variants.{Idle}
+use Rattle.counters.specs.View.{viewTallies}
+use Rattle.counters.proofs.Rows.{rows-none}
 use Rattle.flat_queues.specs.View.{ring, ringsFrom}
 use Rattle.flat_record.specs.Contracts.{AccountsPut}
 use Rattle.flat_port.specs.declared.State.{State}
@@ -33,18 +37,21 @@ abbrev zeros : ℕ → List ℕ
 zeros n = replicate n 0
 
 abbrev pub restingLists : List ℕ → List ℕ → Lists
-restingLists credits since = lists (zeros 6144) (zeros 8) (zeros 8) (zeros 8) (zeros 8) (zeros 24) credits since
+restingLists credits since = lists (zeros 6144) (zeros 8) (zeros 8) (zeros 8) (zeros 8) (zeros 24) credits since (zeros 1281)
 
 resting-queues : (frames heads : List ℕ) → ringsFrom frames heads 0 (zeros 8) ≡ replicate 8 []
 unfolding ringsFrom ring
 resting-queues frames heads = refl
+
+none-counted : (n : ℕ) → viewTallies n (zeros 1281) ≡ noneCounted n
+none-counted n = rw (rows-none 5 0 n 1281, getD-replicate {A = ℕ} 1281 1280 0 0 (omega arith))
 
 module _ (t : TableRecord) {table : Table} (e : table ≡ viewTable t) (passes : tableRefusal (viewTable t) ≡ 0) {credits since : List ℕ} (put : AccountsPut (fullAccounts t) credits since) where
   pub fresh-lists : viewState table restingState (restingLists credits since) ≡ fresh (viewTable t)
   unfolding fresh viewTable
   fresh-lists =
       let few : t .count ≤ 256 = counts-pass t passes .links-most in
-      rw (e, resting-queues (zeros 6144) (zeros 8), lines-at-rest (t .lines), count-shown t, put .accounts-are, accounts-at-rest t few)
+      rw (e, resting-queues (zeros 6144) (zeros 8), none-counted (length (viewTable t .links)), lines-at-rest (t .lines), count-shown t, put .accounts-are, accounts-at-rest t few)
 
   fresh-fit : fit (viewTable t) (fresh (viewTable t)) ≡ true
   unfolding run
@@ -63,6 +70,7 @@ module _ (t : TableRecord) {table : Table} (e : table ≡ viewTable t) (passes :
               ticks = length-replicate {A = ℕ} 24 0;
               credits = put .lists .credits-room;
               since = put .lists .since-room;
+              tallies = length-replicate {A = ℕ} 1281 0;
               holds = record { eight = eight; bytes-are = λ p h. rw (none, getD-replicate {A = ℕ} 8 p 0 0 h, getD-replicate {A = List Frame} 8 p [] [] h) };
             };
         frames = rw none;

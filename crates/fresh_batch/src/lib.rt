@@ -27,6 +27,7 @@ pub fn run(t: Table, reports: &[u8], answers: &mut [u8], departures: &mut [u8])
     let mut held = [0u64; 8];
     let mut marks = [0u64; 8];
     let mut ticks = [0u64; 24];
+    let mut tallies = [0u64; 1281];
     let start = State {
         clock: 0,
         sender: Sender::Idle,
@@ -43,6 +44,7 @@ pub fn run(t: Table, reports: &[u8], answers: &mut [u8], departures: &mut [u8])
         &mut ticks,
         &mut credits,
         &mut since,
+        &mut tallies,
         start,
         reports,
         answers,

@@ -52,13 +52,16 @@ slice-aggregate-run-8 c = search needs
 slice-aggregate-run-9 : tie.Need-slice-aggregate-run-9
 slice-aggregate-run-9 c = search needs
 
+slice-aggregate-run-10 : tie.Need-slice-aggregate-run-10
+slice-aggregate-run-10 c = search needs
+
 run-requires : tie.Need-run-requires
 run-requires c κs =
-    let s = c .before .before .before .before .before .before .before .before .before .before .before .before .before .before .before .before .before .before .before .before .before .before .before .before .before .before in
-    let words2 = c .before .before .before .before .before .before .before .before .before .before .before .before .before .before .before .before .before .before .before .before .words2 in
-    let put-table = c .before .before .before .before .before .before .before .before .before .before .before .before .before .before .before .before .before .before .before .before .before .put-table in
-    let full-accounts = c .before .before .before .before .before .before .before .before .before .before .before .before .before .before .before .before .before .before .before .full-accounts in
-    let put-accounts = c .before .before .before .before .before .before .before .before .before .before .before .before .before .before .before .before .put-accounts in
+    let s = c .before .before .before .before .before .before .before .before .before .before .before .before .before .before .before .before .before .before .before .before .before .before .before .before .before .before .before in
+    let words2 = c .before .before .before .before .before .before .before .before .before .before .before .before .before .before .before .before .before .before .before .before .before .words2 in
+    let put-table = c .before .before .before .before .before .before .before .before .before .before .before .before .before .before .before .before .before .before .before .before .before .before .put-table in
+    let full-accounts = c .before .before .before .before .before .before .before .before .before .before .before .before .before .before .before .before .before .before .before .before .full-accounts in
+    let put-accounts = c .before .before .before .before .before .before .before .before .before .before .before .before .before .before .before .before .before .put-accounts in
     (record { words-are = omega (arith, words2 .given); numbers-are = sized (s .args .t1) _ (s .good .0) .numbers }, fresh-stands (s .args .t1) (put-table .ensures) (s .pre .0) (rw (full-accounts .ensures) at (put-accounts .ensures)), s .pre .1)
 
 same-length : tie.Need-same-length
@@ -69,11 +72,11 @@ same-length-2 c = search needs
 
 returns : tie.Need-returns
 returns c =
-    let s = c .before .before .before .before .before .before .before .before .before .before .before .before .before .before .before .before .before .before .before .before .before .before .before .before .before .before .before .before .before .before .before .before .before .before .before .before .before .before .before in
-    let put-table = c .before .before .before .before .before .before .before .before .before .before .before .before .before .before .before .before .before .before .before .before .before .before .before .before .before .before .before .before .before .before .before .before .before .before .put-table in
-    let full-accounts = c .before .before .before .before .before .before .before .before .before .before .before .before .before .before .before .before .before .before .before .before .before .before .before .before .before .before .before .before .before .before .before .before .full-accounts in
-    let put-accounts = c .before .before .before .before .before .before .before .before .before .before .before .before .before .before .before .before .before .before .before .before .before .before .before .before .before .before .before .before .before .put-accounts in
-    let run = c .before .before .before .before .before .before .before .before .before .before .before .before .run in
+    let s = c .before .before .before .before .before .before .before .before .before .before .before .before .before .before .before .before .before .before .before .before .before .before .before .before .before .before .before .before .before .before .before .before .before .before .before .before .before .before .before .before .before in
+    let put-table = c .before .before .before .before .before .before .before .before .before .before .before .before .before .before .before .before .before .before .before .before .before .before .before .before .before .before .before .before .before .before .before .before .before .before .before .before .put-table in
+    let full-accounts = c .before .before .before .before .before .before .before .before .before .before .before .before .before .before .before .before .before .before .before .before .before .before .before .before .before .before .before .before .before .before .before .before .before .before .full-accounts in
+    let put-accounts = c .before .before .before .before .before .before .before .before .before .before .before .before .before .before .before .before .before .before .before .before .before .before .before .before .before .before .before .before .before .before .before .put-accounts in
+    let run = c .before .before .before .before .before .before .before .before .before .before .before .before .before .run in
     from-fresh (s .args .t1) (put-table .ensures) (s .pre .0) (rw (full-accounts .ensures) at (put-accounts .ensures)) (reportsIn (numbersIn (s .args .reports .now))) (numbersIn (s .args .departures .now)) (run .ensures .1)
 
 pub run-spec : {M : Type 1} → statement M
@@ -95,6 +98,7 @@ run-spec =
     slice-aggregate-run-7
     slice-aggregate-run-8
     slice-aggregate-run-9
+    slice-aggregate-run-10
     run-requires
     same-length
     same-length-2
