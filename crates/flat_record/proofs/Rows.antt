@@ -1,12 +1,12 @@
 -- Rows of four numbers copied one after the other, to a list or from it; and those behind so many links.
-use mathlib.Core.Path.{_≡_, refl, sym, _∙_}
+use mathlib.Core.Path.{_≡_, _∙_}
 use mathlib.Core.List.{List}
 use Prim.Native.Nat.{ℕ, zero, suc, _+_, _-_, _*_, _/_, _%_, _≤_, _<_}
 use native.Mathlib.Decide.{ℕ-discrete}
 use native.Mathlib.Omega.{arith}
 use lib.ListN.{length, getD, set, drop, length-set, length-drop}
 use lib.Seq.{ext-getD, getD-drop, getD-set-same, getD-set-other}
-use Rattle.counters.specs.View.{rowsFrom, viewCounts, viewTallies}
+use Rattle.counters.specs.View.{rowsFrom}
 use Rattle.counters.proofs.Rows.{rows-same}
 use Rattle.flat_record.specs.Contracts.{CountsPut, CountsRead}
 
@@ -15,9 +15,6 @@ abbrev pub fourCopied : (l : List ℕ) (at : ℕ) (m : List ℕ) (from : ℕ) �
 fourCopied l at m from = set (set (set (set l at (getD m from 0)) (at + 1) (getD m (from + 1) 0)) (at + 2) (getD m (from + 2) 0)) (at + 3) (getD m (from + 3) 0)
 
 module _ (l : List ℕ) (at : ℕ) (m : List ℕ) (from : ℕ) where
-  pub length-copied : length (fourCopied l at m from) ≡ length l
-  length-copied = rw (length-set, length-set, length-set, length-set)
-
   abbrev one : List ℕ
   one = set l at (getD m from 0)
 

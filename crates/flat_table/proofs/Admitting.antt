@@ -50,9 +50,6 @@ module _ (words numbers : List ℕ) (m : length numbers ≡ 256) (e : tableRefus
     pub admitted-is : {line len : ℕ} {r : Place} → Admits words line len place r → viewPlace r ≡ admitted (viewWords words numbers) line len (placeOf number (viewWords words numbers .links))
     admitted-is {line} {len} {r} a = rw (← f .place) (a .filter-is numbers m (f .below))
 
-    pub admitted-below : {line len : ℕ} {r : Place} → Admits words line len place r → (i : ℕ) → r ≡ At i → i < getD words 2057 0
-    admitted-below a i q = f .below i (a .same i q)
-
 -- ---- the filter of a place
 module _ (words : List ℕ) (line len : ℕ) {place : Place} where
   pub nowhere : place ≡ Nowhere → Admits words line len place Nowhere

@@ -1,10 +1,10 @@
 -- The first i rows of counts are those of the list.
-use Prim.Native.Nat.{ℕ, _-_, _*_, _≤_}
-use mathlib.Core.Path.{_≡_, _∙_}
+use Prim.Native.Nat.{ℕ, _-_, _≤_}
+use mathlib.Core.Path.{_≡_}
 use native.Mathlib.Omega.{arith}
 use borrow.Author.Needs.{needs}
-use lib.ListN.{length, length-replicate}
-use Rattle.flat_record.proofs.Rows.{Taken, length-copied, one-taken, all-taken}
+use lib.ListN.{length, length-set, length-replicate}
+use Rattle.flat_record.proofs.Rows.{Taken, one-taken, all-taken}
 use Rattle.flat_record.proofs.counts_of.Statement.{statement}
 use Rattle.flat_record.proofs.counts_of.Tie as tie
 
@@ -99,7 +99,7 @@ loop-again : tie.Need-loop-again Inv-loop μ-loop
 loop-again c =
     let s = c .before .before .before .before .before .before in
     let loop = c .before .before .before .before .before .loop in (
-      length-copied (loop .counts) (4 * loop .i) (s .args .tallies .now) (5 * loop .i) ∙ loop .inv .0,
+      simp length-set (loop .inv .0),
       omega arith,
       one-taken (loop .counts) (s .args .tallies .now) (loop .i) (omega arith) (loop .inv .0) (loop .inv .2),
     )

@@ -1,10 +1,10 @@
 -- The first i rows of counts are in the list.
-use Prim.Native.Nat.{_-_, _*_, _≤_}
-use mathlib.Core.Path.{_≡_, _∙_}
+use Prim.Native.Nat.{_-_, _≤_}
+use mathlib.Core.Path.{_≡_}
 use native.Mathlib.Omega.{arith}
 use borrow.Author.Needs.{needs}
 use lib.ListN.{length, length-set}
-use Rattle.flat_record.proofs.Rows.{Laid, length-copied, one-laid, all-laid}
+use Rattle.flat_record.proofs.Rows.{Laid, one-laid, all-laid}
 use Rattle.flat_record.proofs.put_counts.Statement.{statement}
 use Rattle.flat_record.proofs.put_counts.Tie as tie
 
@@ -99,7 +99,7 @@ loop-again : tie.Need-loop-again Inv-loop μ-loop
 loop-again c =
     let s = c .before .before in
     let loop = c .before .loop in (
-      length-copied (loop .tallies) (5 * loop .i) (s .args .t1) (4 * loop .i) ∙ loop .inv .0,
+      simp length-set (loop .inv .0),
       omega arith,
       one-laid (loop .tallies) (s .args .t1) (loop .i) (omega arith) (loop .inv .0) (loop .inv .2),
     )

@@ -139,7 +139,7 @@ settle-requires c κs =
 tally-requires-3 : tie.Need-tally-requires-3
 tally-requires-3 c κs =
     let s = c .before .before .before .before .before .before .before .before .before .before .before .before .before .before .before .before .before .before .before .before .before .before .before .before .before .before .before .before .before .before .before .before .before .before .before .before .before .before .before .before .before .before in
-    (s .pre .1 .sized .tallies, settled-few (c .before .before .before .before .before .before .before .before .before .settle .ensures .2), place-few (s .pre .0) (s .pre .1) (s .args .number) (s .args .time) (c .before .before .before .before .before .before .before .before .before .before .before .before .before .before .before .before .before .before .before .before .before .before .before .before .before .before .before .before .before .before .place .ensures))
+    (s .pre .1 .sized .tallies, omega (arith, settled-few (c .before .before .before .before .before .before .before .before .before .settle .ensures .2)), place-few (s .pre .0) (s .pre .1) (s .args .number) (s .args .time) (c .before .before .before .before .before .before .before .before .before .before .before .before .before .before .before .before .before .before .before .before .before .before .before .before .before .before .before .before .before .before .place .ensures))
 
 same-length-7 : tie.Need-same-length-7
 same-length-7 c = search needs
