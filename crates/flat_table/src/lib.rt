@@ -1,6 +1,6 @@
-// Internal to the product: a table as a flat list of numbers, its words, laid down from the table record; and the filter on it.
-// Eight words a link from 8 × i on: line, priority, code, jitter, least, greatest, two spare. Sizes from 2048 on, line count 2056,
-// link count 2057. The numbers of the links are the record's own.
+// Internal to the product: a table as a flat list of numbers, its words, laid down from the table record; the place of a number in
+// it, and the filter. Eight words a link from 8 × i on: line, priority, code, jitter, least, greatest, two spare. Sizes from 2048 on,
+// line count 2056, link count 2057. The numbers of the links are the record's own.
 use numbers::smaller;
 use numbers::u8_as_u64;
 use numbers::u16_as_u64;
