@@ -1,24 +1,22 @@
 -- A count raised, and the counts of a record tested.
-use mathlib.Core.Path.{_≡_, refl, sym, ap, _∙_}
+use mathlib.Core.Path.{_≡_, refl}
 use mathlib.Core.Bool.{Bool, true, false}
 use mathlib.Core.List.{List}
-use Prim.Native.Nat.{ℕ, zero, suc, _+_, _*_, _/_, _%_, _≤_, _<_}
+use Prim.Native.Nat.{ℕ, _+_, _*_, _/_, _%_, _≤_, _<_}
 use native.Mathlib.Decide.{ℕ-discrete}
 use native.Mathlib.Omega.{arith}
-use lib.Dec.{leb, ltb}
+use lib.Dec.{leb}
 use borrow.Author.Tests.{lt-ltb, le-ltb, leb-true, le-leb}
 use lib.ListN.{length, getD, set}
 use lib.Seq.{getD-set-same, getD-set-other}
 use Rattle.model.specs.Units.{fullCount}
 use Rattle.model.specs.Basics.{allTo}
-use Rattle.model.specs.Counters.{Counters, verdicts, countAt, counted, everyCount, risen}
+use Rattle.model.specs.Counters.{verdicts, countAt, counted, everyCount, risen}
 use Rattle.model.proofs.Checks.{to-all}
-use Rattle.model.proofs.Counting.{EachCount, every-is, is-every}
-use Rattle.table_lookup.specs.declared.Place.{Place}
+use Rattle.model.proofs.Counting.{every-is}
 use Rattle.table_lookup.specs.declared.Place.the-variants.{At, Nowhere}
-use Rattle.table_lookup.specs.Places.{viewPlace}
-use Rattle.counters.specs.View.{rowsFrom, viewCounts, viewTallies}
-use Rattle.counters.specs.Contracts.{Within, Tallied}
+use Rattle.counters.specs.View.{rowsFrom, viewCounts}
+use Rattle.counters.specs.Contracts.{Tallied}
 use Rattle.counters.proofs.Rows.{count-at, count-set, rows-other}
 
 -- ---- one more

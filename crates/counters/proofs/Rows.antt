@@ -1,12 +1,12 @@
 -- Rows of four numbers in a list: one read, one number set.
-use mathlib.Core.Path.{_≡_, refl, sym, ap, _∙_}
-use mathlib.Core.List.{List, [], _∷_}
+use mathlib.Core.Path.{_≡_, refl, ap, _∙_}
+use mathlib.Core.List.{List, []}
 use Prim.Native.Nat.{ℕ, zero, suc, _+_, _*_, _≤_, _<_}
 use native.Mathlib.Nat.{mul-zero, mul-suc}
 use native.Mathlib.Omega.{arith}
 use lib.ListN.{length, getD, set, replicate}
 use lib.Seq.{getD-set-same, getD-set-other}
-use Rattle.model.specs.Counters.{Counters, verdicts, countAt, noneCounted}
+use Rattle.model.specs.Counters.{verdicts}
 use Rattle.counters.specs.View.{fourAt, rowsFrom}
 
 -- a row begins some numbers further on

@@ -2,7 +2,7 @@
 use mathlib.Core.Path.{_≡_}
 use mathlib.Core.List.{List}
 use Prim.Native.Nat.{ℕ, _*_, _≤_, _<_}
-use lib.ListN.{length, getD}
+use lib.ListN.{getD}
 use Rattle.model.specs.Counters.{counted}
 use Rattle.table_lookup.specs.declared.Place.{Place}
 use Rattle.table_lookup.specs.declared.Place.the-variants.{At}

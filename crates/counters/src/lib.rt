@@ -3,12 +3,11 @@
 use table_lookup::Place;
 use units::FULL_COUNT;
 ghost use mathlib.Core.Path.{_≡_};
-ghost use Prim.Native.Nat.{ℕ, _*_, _≤_, _<_};
+ghost use Prim.Native.Nat.{_*_, _≤_, _<_};
 ghost use lib.Dec.{leb};
 ghost use lib.ListN.{length};
 ghost use Rattle.model.specs.Units.{fullCount};
 ghost use Rattle.model.specs.Counters.{risen as risenCount, everyCount};
-ghost use Rattle.table_lookup.specs.Places.{viewPlace};
 ghost use Rattle.counters.specs.View.{viewCounts};
 ghost use Rattle.counters.specs.Contracts.{Within, Tallied};
 

@@ -1,5 +1,5 @@
 -- The examples of counts.
-use mathlib.Core.Path.{_≡_, refl}
+use mathlib.Core.Path.{refl}
 use Prim.Native.Nat.{ℕ}
 use Rattle.model.specs.Basics.{provided, sumTo, done, also, Each}
 use Rattle.model.specs.Counters.{linkSum, linkSums, grandTotal, noneFull}

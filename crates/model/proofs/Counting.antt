@@ -10,11 +10,10 @@ use borrow.Author.Tests.{le-leb, leb-true, ltb-true}
 use lib.ListN.{length, getD, set, replicate}
 use Rattle.model.specs.Basics.{allTo}
 use Rattle.model.specs.Units.{fullCount}
-use Rattle.model.specs.Link.{placeOf}
 use Rattle.model.specs.Table.{Table}
 use Rattle.model.specs.Counters.{Counters, verdicts, countsOf, countAt, noneCounted, risen, counted, everyCount}
 use Rattle.model.specs.Port.{Port, fresh}
-use Rattle.model.specs.Report.{Report, Judged, storedIf, Call, Stepped}
+use Rattle.model.specs.Report.{Report, Judged, storedIf, countedBy, Call, Stepped}
 use Rattle.model.specs.Run.{run}
 use Rattle.model.proofs.Lists.{set-each}
 use Rattle.model.proofs.Checks.{all-to, to-all}
@@ -87,10 +86,11 @@ judged-counters t s time line number len (drops i a c full) = refl
 judged-counters t s time line number len (stores i a c room) = refl
 
 step-counts : (t : Table) (s : Port) (list : List ℕ) → FitCounts (length (t .links)) (s .counters) → {r : Report} {x : Stepped} → Stepping t s list r x → FitCounts (length (t .links)) (x .port .counters)
+unfolding countedBy
 step-counts t s list k (refuses n) = k
 step-counts t s list k (waits time timely) = k
 step-counts t s list k (frames time line number len timely arrives j) =
-    counted-fit (placeOf number (t .links)) _ (rw (judged-counters t (reached s time line) time line number len j) k)
+    counted-fit _ _ (rw (judged-counters t (reached s time line) time line number len j) k)
 
 pub none-at : (n i v : ℕ) → countAt (noneCounted n) i v ≡ 0
 none-at zero i v = refl

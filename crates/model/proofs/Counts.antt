@@ -4,7 +4,7 @@ use mathlib.Core.Bool.{Bool, true, false, _&&_, not}
 use mathlib.Core.Option.{Option, none, some}
 use mathlib.Core.List.{List, [], _∷_}
 use Prim.Native.Nat.{ℕ, zero, suc, _+_, _*_, _≤_, _<_}
-use native.Mathlib.Nat.{le-refl, le-trans}
+use native.Mathlib.Nat.{le-refl}
 use native.Mathlib.Decide.{ℕ-discrete}
 use native.Mathlib.Omega.{arith}
 use lib.Dec.{eqb, ltb}
@@ -16,22 +16,21 @@ use Rattle.model.specs.Units.{lastTick, fullCount, occupied}
 use Rattle.model.specs.Link.{VirtualLink, linkAt, placeOf}
 use Rattle.model.specs.Table.{Table, tableRefusal}
 use Rattle.model.specs.Bounds.{isThere}
-use Rattle.model.specs.Counters.{Counters, verdicts, countsOf, countAt, noneCounted, risen, counted, linkSum, linkSums, grandTotal, noneFull, everyCount}
+use Rattle.model.specs.Counters.{Counters, verdicts, countsOf, countAt, noneCounted, risen, counted, linkSum, linkSums, grandTotal, noneFull}
 use Rattle.model.specs.Port.{Port, lineTick, fresh, withCounters}
-use Rattle.model.specs.Fitness.{fit}
 use Rattle.model.specs.Sums.{sumsIf, sums}
-use Rattle.model.specs.Report.{Report, wait, frame, Judged, storedIf, Call, Stepped, Answer, refusal, answered}
+use Rattle.model.specs.Report.{Report, wait, frame, Judged, storedIf, countedBy, Call, Stepped, Answer, refusal}
 use Rattle.model.specs.Run.{Entry, run, accepted, reportsFrame, framesReported}
 use Rattle.model.specs.Promises.{CountsAddUp}
 use Rattle.model.proofs.Curves.{sumTo-none, occupied-weight}
-use Rattle.model.proofs.Queues.{sumTo-ext, sumTo-change, sumTo-one-le}
+use Rattle.model.proofs.Queues.{sumTo-ext, sumTo-change}
 use Rattle.model.proofs.Gate.{numbers-apart, after-set}
 use Rattle.model.proofs.Passing.{Passing, is-passing}
-use Rattle.model.proofs.Stepping.{Judgement, filters, polices, drops, stores, Placed, placed, verdict-of, Timely, Arrives, movedTo, reached, freedBy, Stepping, refuses, waits, frames, stepping}
+use Rattle.model.proofs.Stepping.{Judgement, filters, polices, drops, stores, Placed, placed, verdict-of, Arrives, movedTo, reached, freedBy, Stepping, refuses, waits, frames, stepping}
 use Rattle.model.proofs.Counting.{is-every, judged-counters, none-at}
 use Rattle.model.proofs.Log.{entryOf, taken, not-accepted}
 use Rattle.model.proofs.Invariant.{Invariant, run-kept}
-use Rattle.model.proofs.Fitness.{never-unfit, fit-is}
+use Rattle.model.proofs.Fitness.{never-unfit}
 
 abbrev Meant : Type 0
 Meant = ℕ → ℕ → Bool
@@ -294,7 +293,8 @@ module _ (t : Table) (v : Passing t) (s : Port) (log : List Entry) (inv : Invari
           four = four-stay;
         }
 
-  counted-kept : Kept t (with (counted (placeOf number (t .links)) (j .verdict) (j .port .counters))) (this ∷ log)
+  counted-kept : Kept t (with (countedBy t (frame time line number len) (j .verdict) (j .port .counters))) (this ∷ log)
+  unfolding countedBy
   counted-kept = rw (judged-counters t (reached s time line) time line number len x) (go (placeOf number (t .links)) refl)
     where
       go : (o : Option ℕ) → placeOf number (t .links) ≡ o → Kept t (with (counted o (j .verdict) (s .counters))) (this ∷ log)

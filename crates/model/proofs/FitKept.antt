@@ -1,18 +1,18 @@
 -- A report keeps fitness, from every fit port: no log is needed for it.
 use mathlib.Core.Path.{_≡_, refl}
-use mathlib.Core.List.{List, [], _∷_}
-use Prim.Native.Nat.{ℕ, zero, suc, _+_, _-_, _≤_, _<_}
+use mathlib.Core.List.{List, []}
+use Prim.Native.Nat.{ℕ, _+_, _-_, _≤_}
 use native.Mathlib.Nat.{le-refl}
 use native.Mathlib.Decide.{decLe}
 use native.Mathlib.Omega.{arith}
 use borrow.Author.Tests.{eqb-true}
-use lib.ListN.{length, getD, set, length-set, List·getD-eq-default}
-use Rattle.model.specs.Link.{bag, linkAt, placeOf}
+use lib.ListN.{length, length-set, List·getD-eq-default}
+use Rattle.model.specs.Link.{bag, linkAt}
 use Rattle.model.specs.Table.{Table, tableRefusal}
 use Rattle.model.specs.Machine.{queueOf, advance}
 use Rattle.model.specs.Port.{Account, Gate, Port, blankAccount, withLineTick, withAccount}
 use Rattle.model.specs.Fitness.{fit}
-use Rattle.model.specs.Report.{Report, Judged, replenished, charged, storedIf, Stepped, step}
+use Rattle.model.specs.Report.{Report, Judged, replenished, charged, storedIf, countedBy, Stepped, step}
 use Rattle.model.specs.Promises.{FitnessKept, LengthsKept}
 use Rattle.model.proofs.Lists.{set-each}
 use Rattle.model.proofs.Checks.{all-true}
@@ -113,12 +113,13 @@ module _ (t : Table) (v : Passing t) (s : Port) (k : InOrder t s) where
         }
 
   step-whole : (list : List ℕ) {r : Report} {x : Stepped} → Stepping t s list r x → InOrder t (x .port)
+  unfolding countedBy
   step-whole list (refuses n) = k
   step-whole list (waits time timely) =
       record { ordered = moved time timely; gate = rw (there time timely) (gate-later t (s .scheduler .clock) (s .gate) (k .gate) time (timely .from)); counts = k .counts }
   step-whole list (frames time line number len timely arrives j) =
       let x = judged-whole time timely line number len arrives j in
-      record { ordered = recounted-order _ (x .ordered); gate = x .gate; counts = counted-fit (placeOf number (t .links)) _ (x .counts) }
+      record { ordered = recounted-order _ (x .ordered); gate = x .gate; counts = counted-fit _ _ (x .counts) }
 
 pub fitness-kept : FitnessKept
 unfolding fit

@@ -13,7 +13,6 @@ use Rattle.model.specs.Units.{lastTick, leastLength, greatestLength, occ
 use Rattle.model.specs.Link.{VirtualLink, bag, linkAt, placeOf}
 use Rattle.model.specs.Table.{Table, sizeOf}
 use Rattle.model.specs.Machine.{Frame, Departure, queueOf, advance, held}
-use Rattle.model.specs.Counters.{counted}
 use Rattle.model.specs.Port.{Port, lineTick, withScheduler, withGate, withCounters, withLineTick, withAccount}
 use Rattle.model.specs.Report.{Report, wait, frame, tickOf, frameChecks, reportChecks, allChecks, reportRefusal, Judged, judged, admits, admitted, Checked, checkedIf, police, policeAt, hasRoom, storedIf, store, passedIf, judge, Stepped, arrived, judgeReport, countedBy, listed, answered, refusal, acceptedOr, step}
 use Rattle.model.proofs.Checks.{all-true, NoneMet}
@@ -150,8 +149,8 @@ abbrev pub freedBy : Port → ℕ → List Departure
 freedBy s time = advance time (s .scheduler) .departures
 
 -- and with a frame counted
-abbrev pub countedPort : Table → ℕ → Judged → Port
-countedPort t number j = withCounters (j .port) (counted (placeOf number (t .links)) (j .verdict) (j .port .counters))
+abbrev pub countedPort : Table → Report → Judged → Port
+countedPort t r j = withCounters (j .port) (countedBy t r (j .verdict) (j .port .counters))
 
 abbrev pub accepts : Judged → List Departure → List ℕ → Stepped
 accepts j departures list = record { port = j .port; answer = answered (j .verdict) departures; list = listed departures list }
@@ -160,7 +159,7 @@ pub data Stepping (t : Table) (s : Port) (list : List ℕ) : Report → Stepped 
   refuses : {r : Report} (n : ℕ) → Stepping t s list r (record { port = s; answer = refusal (suc n); list = list })
   waits : (time : ℕ) → Timely s time → Stepping t s list (wait time) (accepts (judged (movedTo s time) 0) (freedBy s time) list)
   frames : (time line number len : ℕ) → Timely s time → Arrives t s time line len → {j : Judged} → Judgement t (reached s time line) time line number len j
-      → Stepping t s list (frame time line number len) (accepts (judged (countedPort t number j) (j .verdict)) (freedBy s time) list)
+      → Stepping t s list (frame time line number len) (accepts (judged (countedPort t (frame time line number len) j) (j .verdict)) (freedBy s time) list)
 
 module _ (t : Table) (s : Port) (list : List ℕ) where
   accepting : (r : Report) → NoneMet (allChecks t s r (length list)) → Stepping t s list r (acceptedOr 0 t s (record { report = r; list = list }))

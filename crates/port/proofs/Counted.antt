@@ -1,10 +1,10 @@
 -- A frame counted, in the record and in the model.
-use mathlib.Core.Path.{_≡_, refl, ap, _∙_}
+use mathlib.Core.Path.{_≡_, refl, _∙_}
 use mathlib.Core.Option.{none, some}
 use mathlib.Core.List.{List}
 use Prim.Native.Nat.{ℕ, _+_, _*_, _<_}
 use native.Mathlib.Omega.{arith}
-use lib.ListN.{getD, set, drop}
+use lib.ListN.{getD, set}
 use lib.Seq.{drop-set-lt}
 use Rattle.model.specs.Link.{placeOf}
 use Rattle.model.specs.Table.{tableRefusal}
@@ -15,7 +15,6 @@ use Rattle.table_lookup.specs.declared.Place.{Place}
 use Rattle.table_lookup.specs.declared.Place.the-variants.{At, Nowhere}
 use Rattle.table_lookup.specs.Places.{Found}
 use Rattle.table_lookup.proofs.Tables.{links-named}
-use Rattle.counters.specs.View.{rowsFrom}
 use Rattle.counters.proofs.Rows.{count-at, count-set}
 use Rattle.port.specs.declared.Port.{Port as PortRecord}
 use Rattle.port.specs.View.{viewPortTable, viewPort}

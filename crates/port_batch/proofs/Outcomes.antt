@@ -27,7 +27,7 @@ module _ (p : PortRecord) (reports answers list : List ℕ) {n : ℕ} (e : n ≡
   unfolding answerBatch
   call-refused z =
       record {
-        gives = rw (← e, refused-outcome n z) (record { refused = refl; departures = refl; port = refl; answers-are = refl; list-is = refl; table = refl; lines-behind = refl; accounts-behind = refl });
+        gives = rw (← e, refused-outcome n z) (record { refused = refl; departures = refl; port = refl; answers-are = refl; list-is = refl; table = refl; lines-behind = refl; accounts-behind = refl; counts-behind = refl });
         same = λ x. refl;
         same-port = λ x. refl;
       }
@@ -47,7 +47,7 @@ module _ (p : PortRecord) (reports answers list : List ℕ) {n : ℕ} (e : n ≡
     unfolding batchOr
     call-answered k = record { gives = rw outcome-is (k .gives); same = λ x. absurd (x (k .gives .refused)); same-port = k .same-port }
 
-    module _ {x : Fitness} (tested : x ≡ portFitness (p .table) (p .clock) (p .queues) (p .sender) (p .gate)) where
+    module _ {x : Fitness} (tested : x ≡ portFitness (p .table) (p .clock) (p .queues) (p .sender) (p .gate) (p .counts) (p .unknown)) where
       pub fits : x .fits ≡ true → Fit p (x .frames)
       fits good = record { fits = sym (fits-is p tested) ∙ good; frames-are = frames-are p tested good }
 
@@ -68,6 +68,7 @@ module _ (p : PortRecord) (reports answers list : List ℕ) {n : ℕ} (e : n ≡
                   table = refl;
                   lines-behind = refl;
                   accounts-behind = refl;
+                  counts-behind = refl;
                 });
             same = λ y. absurd (y refl);
             same-port = λ y. refl;

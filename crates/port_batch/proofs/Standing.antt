@@ -23,6 +23,7 @@ use Rattle.model.proofs.Fitness.{FitPort, fit-is}
 use Rattle.table.specs.declared.Table.{Table as TableRecord}
 use Rattle.table.specs.View.{viewLinks, viewTable}
 use Rattle.table.proofs.Shape.{count-shown}
+use Rattle.table.proofs.PassingRecord.{counts-pass}
 use Rattle.port_policing.specs.declared.Account.{Account as AccountRecord}
 use Rattle.port_policing.specs.Check.{viewAccount, recordAccount}
 use Rattle.port_policing.specs.Gate.{viewGate}
@@ -37,7 +38,7 @@ use Rattle.flat_policing.specs.Accounts.{accountsOf}
 use Rattle.flat_scheduler.specs.Contracts.{Flat, Holds}
 use Rattle.flat_scheduler.proofs.Rings.{ring-count}
 use Rattle.flat_table.specs.View.{viewWords}
-use Rattle.flat_record.specs.Contracts.{AccountsPut, AccountsRead, QueuesFit, QueuesPut, QueuesRead, RingLists, RingsFit, Narrow}
+use Rattle.flat_record.specs.Contracts.{AccountsPut, AccountsRead, CountsPut, CountsRead, QueuesFit, QueuesPut, QueuesRead, RingLists, RingsFit, Narrow}
 use Rattle.flat_port.specs.declared.State.{State}
 use Rattle.flat_port.specs.Lists.{Lists, lists, queuesIn, viewLists, viewState, Sized, Stands}
 use Rattle.flat_batch.specs.declared.Ran.{Ran}
@@ -45,6 +46,11 @@ use Rattle.flat_batch.specs.Contracts.{batchOf, AllRefused, Ends, Answers}
 use Rattle.port_batch.specs.declared.Batched.{Batched as BatchedRecord}
 use Rattle.port_batch.specs.Contracts.{batchFrom, Gives, Fit, Answered}
 use Rattle.port_batch.proofs.Refusing.{Untouched, untouched}
+
+-- the links of a fit record are not more than its arrays
+pub fit-few : {p : PortRecord} {holding : ℕ} → Fit p holding → p .table .count ≤ 256
+unfolding fit
+fit-few {p} k = counts-pass (p .table) (eqb-true (tableRefusal (viewPortTable p)) 0 (all-true _ (k .fits) .0)) .links-most
 
 -- ---- from the record
 pub queues-room : {p : PortRecord} {holding : ℕ} → Fit p holding → {frames counts held marks : List ℕ} → length frames ≡ 6144 → length counts ≡ 8 → length held ≡ 8 → length marks ≡ 8 →
@@ -55,12 +61,12 @@ queues-room {p} k a b c d =
     record { lists = record { frames-room = a; counts-room = b }; held-room = c; marks-room = d; few = λ r h. rw (← queue-count (p .queues) r) (f .few r h) }
 
 module _ {p : PortRecord} (w : Whole p) {holding : ℕ} (k : Fit p holding) (words : List ℕ) (we : viewWords words (p .table .numbers) ≡ viewTable (p .table))
-    {frames counts held marks credits since : List ℕ} (q : QueuesPut (p .queues) frames counts held marks) (a : AccountsPut (p .gate .accounts) credits since) where
+    {frames counts held marks credits since tallies : List ℕ} (q : QueuesPut (p .queues) frames counts held marks) (a : AccountsPut (p .gate .accounts) credits since) (f : CountsPut (p .counts) (p .unknown) tallies) where
   abbrev t : Table
   t = viewWords words (p .table .numbers)
 
   abbrev l₀ : Lists
-  l₀ = lists frames (replicate 8 0) counts held marks (p .gate .«line_ticks») credits since
+  l₀ = lists frames (replicate 8 0) counts held marks (p .gate .«line_ticks») credits since tallies
 
   abbrev start : State
   start = record { clock = p .clock; sender = p .sender; frames = holding }
@@ -70,7 +76,7 @@ module _ {p : PortRecord} (w : Whole p) {holding : ℕ} (k : Fit p holding) (wor
 
   pub start-shown : viewState t start l₀ ≡ viewPort p
   unfolding viewPort viewTable
-  start-shown = rw (we, rings-are, q .marks-are, a .accounts-are, count-shown (p .table))
+  start-shown = rw (we, rings-are, q .marks-are, a .accounts-are, count-shown (p .table), f .counters-are (p .table .count) (fit-few k))
 
   pub stands : Stands t start l₀
   unfolding viewPort
@@ -83,6 +89,7 @@ module _ {p : PortRecord} (w : Whole p) {holding : ℕ} (k : Fit p holding) (wor
               ticks = w .lines;
               credits = a .lists .credits-room;
               since = a .lists .since-room;
+              tallies = f .room;
               holds = record { eight = q .held-room; bytes-are = λ r h. rw rings-are (q .held-are r h) };
             };
         frames = rw rings-are (k .frames-are);
@@ -119,14 +126,15 @@ rings-fit {t} {s} {l} k =
     }
 
 -- the record of flat lists, and its view
-abbrev pub recordOf : TableRecord → State → List Queue → List ℕ → List AccountRecord → PortRecord
-recordOf t s queues ticks accounts = record { table = t; clock = s .clock; queues = queues; sender = s .sender; gate = record { «line_ticks» = ticks; accounts = accounts } }
+abbrev pub recordOf : TableRecord → State → List Queue → List ℕ → List AccountRecord → List ℕ → ℕ → PortRecord
+recordOf t s queues ticks accounts counts unknown =
+    record { table = t; clock = s .clock; queues = queues; sender = s .sender; gate = record { «line_ticks» = ticks; accounts = accounts }; counts = counts; unknown = unknown }
 
-pub record-shown : (r : TableRecord) (words : List ℕ) → viewWords words (r .numbers) ≡ viewTable r → (s : State) (l : Lists) {queues : List Queue} {accounts : List AccountRecord} →
-    QueuesRead (l .frames) (l .heads) (l .counts) (l .marks) queues → AccountsRead (l .credits) (l .since) accounts →
-    viewPort (recordOf r s queues (l .ticks) accounts) ≡ viewState (viewWords words (r .numbers)) s l
+pub record-shown : (r : TableRecord) (words : List ℕ) → viewWords words (r .numbers) ≡ viewTable r → r .count ≤ 256 → (s : State) (l : Lists) {queues : List Queue} {accounts : List AccountRecord} {counts : List ℕ} →
+    QueuesRead (l .frames) (l .heads) (l .counts) (l .marks) queues → AccountsRead (l .credits) (l .since) accounts → CountsRead (l .tallies) counts →
+    viewPort (recordOf r s queues (l .ticks) accounts counts (getD (l .tallies) 1280 0)) ≡ viewState (viewWords words (r .numbers)) s l
 unfolding viewPort viewTable
-record-shown r words we s l q a = rw (we, q .rings, q .marks-are, a .accounts-are, count-shown r)
+record-shown r words we few s l q a f = rw (we, q .rings, q .marks-are, a .accounts-are, count-shown r, f .counters-are (r .count) few)
 
 -- accounts that are shown the same are the same
 back : (a : List AccountRecord) → map recordAccount (map viewAccount a) ≡ a
@@ -141,14 +149,25 @@ drop-map f zero l = refl
 drop-map f (suc n) [] = refl
 drop-map f (suc n) (x ∷ l) = drop-map f n l
 
+-- lists of one length that agree from a place on are the same behind it
+behind-same : (a b : List ℕ) (n : ℕ) → length a ≡ length b → ((j : ℕ) → n ≤ j → j < length a → getD a j 0 ≡ getD b j 0) → drop n a ≡ drop n b
+behind-same [] [] n e each = refl
+behind-same [] (y ∷ b) n e each = absurd (omega arith)
+behind-same (x ∷ a) [] n e each = absurd (omega arith)
+behind-same (x ∷ a) (y ∷ b) zero e each =
+    let h : x ≡ y = each 0 (omega arith) (omega arith) in
+    let t : drop 0 a ≡ drop 0 b = behind-same a b 0 (omega arith) (λ j l m. each (suc j) (omega arith) (omega arith)) in
+    cc
+behind-same (x ∷ a) (y ∷ b) (suc n) e each = behind-same a b n (omega arith) (λ j l m. each (suc j) (omega arith) (omega arith))
+
 -- ---- after the reports
 module _ {p : PortRecord} (w : Whole p) {holding : ℕ} (k : Fit p holding) (words : List ℕ) (we : viewWords words (p .table .numbers) ≡ viewTable (p .table))
-    {frames counts held marks credits since : List ℕ} (q : QueuesPut (p .queues) frames counts held marks) (a : AccountsPut (p .gate .accounts) credits since)
+    {frames counts held marks credits since tallies : List ℕ} (q : QueuesPut (p .queues) frames counts held marks) (a : AccountsPut (p .gate .accounts) credits since) (f : CountsPut (p .counts) (p .unknown) tallies)
     (reports answers list : List ℕ) {answers' list' : List ℕ} {ran : Ran} {l : Lists}
-    (ends : Ends (viewWords words (p .table .numbers)) (l₀ w k words we q a) (batchOf (viewWords words (p .table .numbers)) (start w k words we q a) (l₀ w k words we q a) (reportsIn reports) list) ran l)
-    (given : Answers (batchOf (viewWords words (p .table .numbers)) (start w k words we q a) (l₀ w k words we q a) (reportsIn reports) list) answers answers' list list') where
+    (ends : Ends (viewWords words (p .table .numbers)) (l₀ w k words we q a f) (batchOf (viewWords words (p .table .numbers)) (start w k words we q a f) (l₀ w k words we q a f) (reportsIn reports) list) ran l)
+    (given : Answers (batchOf (viewWords words (p .table .numbers)) (start w k words we q a f) (l₀ w k words we q a f) (reportsIn reports) list) answers answers' list list') where
   -- the model's batch of the record
-  batch-is : batchOf (viewWords words (p .table .numbers)) (start w k words we q a) (l₀ w k words we q a) (reportsIn reports) list ≡ batchFrom p reports list
+  batch-is : batchOf (viewWords words (p .table .numbers)) (start w k words we q a f) (l₀ w k words we q a f) (reportsIn reports) list ≡ batchFrom p reports list
   batch-is = rw (start-shown w k words we q a, we)
 
   accounts-stay : {accounts : List AccountRecord} → AccountsRead (l .credits) (l .since) accounts → drop (p .table .count) accounts ≡ drop (p .table .count) (p .gate .accounts)
@@ -157,6 +176,17 @@ module _ {p : PortRecord} (w : Whole p) {holding : ℕ} (k : Fit p holding) (wor
       let e = rw (we, count-shown (p .table), ← ar .accounts-are, a .accounts-are) at (ends .accounts-behind) in
       same-accounts (drop (p .table .count) accounts) (drop (p .table .count) (p .gate .accounts))
       (sym (drop-map viewAccount (p .table .count) accounts) ∙ e ∙ drop-map viewAccount (p .table .count) (p .gate .accounts))
+
+  -- counts behind those of the table's links are as they came
+  counts-stay : {filed : List ℕ} → CountsRead (l .tallies) filed → drop (4 * p .table .count) filed ≡ drop (4 * p .table .count) (p .counts)
+  unfolding viewTable
+  counts-stay {filed} cr =
+      behind-same filed (p .counts) (4 * p .table .count) (cr .all ∙ sym (w .counts))
+      (λ j h m.
+      let i = j / 4 in
+      let v = j % 4 in
+      let e : j ≡ 4 * i + v = omega arith in
+      rw (e, cr .each i v (omega (arith, w .counts)) (omega arith), ends .tallies-behind (5 * i + v) (rw (we, count-shown (p .table)) (omega arith)) (omega (arith, w .counts))) (f .each i v (omega (arith, w .counts)) (omega arith)))
 
   pub kept : ran .accepted ≡ false → Answered p reports answers answers' list list' (record { refused = 0; departures = ran .departures; port = p })
   unfolding batchOr
@@ -173,26 +203,29 @@ module _ {p : PortRecord} (w : Whole p) {holding : ℕ} (k : Fit p holding) (wor
               table = refl;
               lines-behind = refl;
               accounts-behind = refl;
+              counts-behind = refl;
             };
         same-port = λ x. refl;
       }
 
-  pub moved : ran .accepted ≡ true → {queues : List Queue} {accounts : List AccountRecord} → QueuesRead (l .frames) (l .heads) (l .counts) (l .marks) queues → AccountsRead (l .credits) (l .since) accounts →
-      Answered p reports answers answers' list list' (record { refused = 0; departures = ran .departures; port = recordOf (p .table) (ran .state) queues (l .ticks) accounts })
+  pub moved : ran .accepted ≡ true → {queues : List Queue} {accounts : List AccountRecord} {filed : List ℕ} → QueuesRead (l .frames) (l .heads) (l .counts) (l .marks) queues → AccountsRead (l .credits) (l .since) accounts →
+      CountsRead (l .tallies) filed →
+      Answered p reports answers answers' list list' (record { refused = 0; departures = ran .departures; port = recordOf (p .table) (ran .state) queues (l .ticks) accounts filed (getD (l .tallies) 1280 0) })
   unfolding batchOr viewTable
-  moved e {queues} {accounts} qr ar =
+  moved e {queues} {accounts} {filed} qr ar cr =
       let b = rw batch-is at (ends .port) in
       record {
         gives =
             record {
               refused = refl;
               departures = rw batch-is at (ends .departures);
-              port = record-shown (p .table) words we (ran .state) l qr ar ∙ b;
+              port = record-shown (p .table) words we (fit-few k) (ran .state) l qr ar cr ∙ b;
               answers-are = rw batch-is at (given .answers-are);
               list-is = rw batch-is at (given .list-is);
               table = refl;
               lines-behind = rw we at (ends .lines-behind);
               accounts-behind = accounts-stay ar;
+              counts-behind = counts-stay cr;
             };
         same-port = λ x. absurd (let y : _≡_ {A = ℕ} 0 1 = let z : true ≡ false = sym e ∙ ends .untouched (rw batch-is x) in cc in omega arith);
       }

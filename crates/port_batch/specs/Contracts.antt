@@ -33,6 +33,7 @@ pub record Gives (p : PortRecord) (o : BatchOutcome) (answers list : List ℕ) (
   pub table : r .port .table ≡ p .table
   pub lines-behind : drop (p .table .lines) (r .port .gate .«line_ticks») ≡ drop (p .table .lines) (p .gate .«line_ticks»)
   pub accounts-behind : drop (p .table .count) (r .port .gate .accounts) ≡ drop (p .table .count) (p .gate .accounts)
+  pub counts-behind : drop (4 * p .table .count) (r .port .counts) ≡ drop (4 * p .table .count) (p .counts)
 
 -- and where the call is refused, or each of its reports, the record is the very one that was handed in
 pub record Batches (p : PortRecord) (reports answers answers' list list' : List ℕ) (r : BatchedRecord) : Type 0 where

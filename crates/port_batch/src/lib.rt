@@ -29,7 +29,16 @@ pub fn batch(port: Port, reports: &[u64], answers: &mut [u64], list: &mut [u64])
     let queues = port.queues;
     let sender = port.sender;
     let gate = port.gate;
-    let checked = port_record_fitness::fit(t, port.clock, queues, sender, gate);
+    let counts = port.counts;
+    let checked = port_record_fitness::fit(
+        t,
+        port.clock,
+        queues,
+        sender,
+        gate,
+        &counts,
+        port.unknown,
+    );
     if !checked.fits {
         refusals::refuse_each(reports.len() / 5, answers);
         return Batched {

@@ -35,6 +35,9 @@ pub(crate) fn answered(
     let mut credits = [0u64; 256];
     let mut since = [0u64; 256];
     flat_record::put_accounts(accounts, &mut credits, &mut since);
+    let filed = p.counts;
+    let mut tallies = [0u64; 1281];
+    flat_record::put_counts(filed, p.unknown, &mut tallies);
     let sender = p.sender;
     let start = State {
         clock: p.clock,
@@ -52,6 +55,7 @@ pub(crate) fn answered(
         &mut ticks,
         &mut credits,
         &mut since,
+        &mut tallies,
         start,
         reports,
         answers,
@@ -68,6 +72,7 @@ pub(crate) fn answered(
     let sending = state.sender;
     let left = flat_record::queues_of(&frames, &heads, &counts, &marks);
     let charged = flat_record::accounts_of(&credits, &since);
+    let counted = flat_record::counts_of(&tallies);
     Batched {
         refused: 0,
         departures: ran.departures,
@@ -80,6 +85,8 @@ pub(crate) fn answered(
                 line_ticks: ticks,
                 accounts: charged,
             },
+            counts: counted,
+            unknown: tallies[1280],
         },
     }
 }

@@ -1,7 +1,6 @@
 use mathlib.Core.Path.{refl}
 use Prim.Native.Nat.{_<_}
 use native.Mathlib.Omega.{arith}
-use Rattle.table.proofs.Shape.{sized}
 use Rattle.table_lookup.proofs.Tables.{searchable}
 use Rattle.port.proofs.Whole.{whole}
 use Rattle.port.proofs.Counted.{is-unknown, in-array, is-known}
