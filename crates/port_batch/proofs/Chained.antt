@@ -10,7 +10,7 @@ use Rattle.model.specs.Report.{Report, Call}
 use Rattle.model.specs.Run.{Entry, run}
 use Rattle.model.specs.Batch.{reportsIn, batchRefusal, batchOr, answerBatch, logged}
 use Rattle.model.proofs.Batches.{calls-of}
-use Rattle.model.proofs.Theorems.{demand-three}
+use Rattle.model.proofs.Theorems.{demand-three, counts-add-up}
 use Rattle.table.specs.declared.Table.{Table as TableRecord}
 use Rattle.table.specs.View.{viewTable}
 use Rattle.port.specs.declared.Port.{Port as PortRecord}
@@ -21,7 +21,7 @@ use Rattle.port.proofs.FreshPort.{fresh-shown}
 use Rattle.port.specs.Contracts.{freshOr, recordFresh, Answered}
 use Rattle.port_batch.specs.declared.Batched.{Batched as BatchedRecord}
 use Rattle.port_batch.specs.Contracts.{batchFrom, outcomeFrom, Batches}
-use Rattle.port_batch.specs.Calls.{viewAnswer, Chain, begins, goes-on, batches, batch-refused, DemandThreeOfCalls}
+use Rattle.port_batch.specs.Calls.{viewAnswer, Chain, begins, goes-on, batches, batch-refused, DemandThreeOfCalls, CountsOfCalls}
 
 -- the calls that a chain made; its table passes
 pub record Ran (t : TableRecord) (p : PortRecord) (log : List Entry) : Type 0 where
@@ -72,3 +72,6 @@ chain-ran t q log' (batch-refused {p = p} {log = log} {b = b} reports answers an
 
 pub demand-of-calls : DemandThreeOfCalls
 demand-of-calls t e p log c = let k = chain-ran t p log c in rw (k .is) at (demand-three (viewTable t) e (k .calls))
+
+pub counts-of-calls : CountsOfCalls
+counts-of-calls t p log c = let k = chain-ran t p log c in rw (k .is) at (counts-add-up (viewTable t) (k .passes) (k .calls))

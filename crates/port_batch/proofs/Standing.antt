@@ -3,14 +3,14 @@ use mathlib.Core.Path.{_≡_, refl, sym, ap, _∙_}
 use mathlib.Core.Bool.{true, false}
 use mathlib.Core.Option.{Option, none, some}
 use mathlib.Core.List.{List, [], _∷_, map, flatMap}
-use Prim.Native.Nat.{ℕ, zero, suc, _+_, _*_, _/_, _^_, _≤_, _<_}
+use Prim.Native.Nat.{ℕ, zero, suc, _+_, _*_, _/_, _%_, _≤_, _<_}
 use native.Mathlib.Omega.{arith}
-use borrow.Author.Tests.{leb-true}
+use borrow.Author.Tests.{eqb-true, leb-true}
 use lib.ListN.{length, getD, drop, replicate, length-map, getD-replicate, length-replicate}
 use Rattle.model.specs.Basics.{Each, done, also, entries}
 use Rattle.model.specs.Units.{mostFrames}
 use Rattle.model.specs.Link.{placeOf, linkAt}
-use Rattle.model.specs.Table.{Table, sizeOf}
+use Rattle.model.specs.Table.{Table, tableRefusal}
 use Rattle.model.specs.Machine.{Frame, at, queueOf, held as heldBytes, framesHeld}
 use Rattle.model.specs.Port.{Account, Port, blankAccount, markOf}
 use Rattle.model.specs.Fitness.{namesLink, fit}
@@ -39,6 +39,7 @@ use Rattle.flat_scheduler.specs.Contracts.{Flat, Holds}
 use Rattle.flat_scheduler.proofs.Rings.{ring-count}
 use Rattle.flat_table.specs.View.{viewWords}
 use Rattle.flat_record.specs.Contracts.{AccountsPut, AccountsRead, CountsPut, CountsRead, QueuesFit, QueuesPut, QueuesRead, RingLists, RingsFit, Narrow}
+use Rattle.flat_record.proofs.Rows.{counts-stay as stay}
 use Rattle.flat_port.specs.declared.State.{State}
 use Rattle.flat_port.specs.Lists.{Lists, lists, queuesIn, viewLists, viewState, Sized, Stands}
 use Rattle.flat_batch.specs.declared.Ran.{Ran}
@@ -149,17 +150,6 @@ drop-map f zero l = refl
 drop-map f (suc n) [] = refl
 drop-map f (suc n) (x ∷ l) = drop-map f n l
 
--- lists of one length that agree from a place on are the same behind it
-behind-same : (a b : List ℕ) (n : ℕ) → length a ≡ length b → ((j : ℕ) → n ≤ j → j < length a → getD a j 0 ≡ getD b j 0) → drop n a ≡ drop n b
-behind-same [] [] n e each = refl
-behind-same [] (y ∷ b) n e each = absurd (omega arith)
-behind-same (x ∷ a) [] n e each = absurd (omega arith)
-behind-same (x ∷ a) (y ∷ b) zero e each =
-    let h : x ≡ y = each 0 (omega arith) (omega arith) in
-    let t : drop 0 a ≡ drop 0 b = behind-same a b 0 (omega arith) (λ j l m. each (suc j) (omega arith) (omega arith)) in
-    cc
-behind-same (x ∷ a) (y ∷ b) (suc n) e each = behind-same a b n (omega arith) (λ j l m. each (suc j) (omega arith) (omega arith))
-
 -- ---- after the reports
 module _ {p : PortRecord} (w : Whole p) {holding : ℕ} (k : Fit p holding) (words : List ℕ) (we : viewWords words (p .table .numbers) ≡ viewTable (p .table))
     {frames counts held marks credits since tallies : List ℕ} (q : QueuesPut (p .queues) frames counts held marks) (a : AccountsPut (p .gate .accounts) credits since) (f : CountsPut (p .counts) (p .unknown) tallies)
@@ -168,7 +158,7 @@ module _ {p : PortRecord} (w : Whole p) {holding : ℕ} (k : Fit p holding) (wor
     (given : Answers (batchOf (viewWords words (p .table .numbers)) (start w k words we q a f) (l₀ w k words we q a f) (reportsIn reports) list) answers answers' list list') where
   -- the model's batch of the record
   batch-is : batchOf (viewWords words (p .table .numbers)) (start w k words we q a f) (l₀ w k words we q a f) (reportsIn reports) list ≡ batchFrom p reports list
-  batch-is = rw (start-shown w k words we q a, we)
+  batch-is = rw (start-shown w k words we q a f, we)
 
   accounts-stay : {accounts : List AccountRecord} → AccountsRead (l .credits) (l .since) accounts → drop (p .table .count) accounts ≡ drop (p .table .count) (p .gate .accounts)
   unfolding viewTable
@@ -180,13 +170,7 @@ module _ {p : PortRecord} (w : Whole p) {holding : ℕ} (k : Fit p holding) (wor
   -- counts behind those of the table's links are as they came
   counts-stay : {filed : List ℕ} → CountsRead (l .tallies) filed → drop (4 * p .table .count) filed ≡ drop (4 * p .table .count) (p .counts)
   unfolding viewTable
-  counts-stay {filed} cr =
-      behind-same filed (p .counts) (4 * p .table .count) (cr .all ∙ sym (w .counts))
-      (λ j h m.
-      let i = j / 4 in
-      let v = j % 4 in
-      let e : j ≡ 4 * i + v = omega arith in
-      rw (e, cr .each i v (omega (arith, w .counts)) (omega arith), ends .tallies-behind (5 * i + v) (rw (we, count-shown (p .table)) (omega arith)) (omega (arith, w .counts))) (f .each i v (omega (arith, w .counts)) (omega arith)))
+  counts-stay cr = stay f cr (w .counts) (p .table .count) (rw (we, count-shown (p .table)) at (ends .tallies-behind))
 
   pub kept : ran .accepted ≡ false → Answered p reports answers answers' list list' (record { refused = 0; departures = ran .departures; port = p })
   unfolding batchOr

@@ -1,4 +1,4 @@
--- Demand 3 for the real calls: what a user of `fresh`, `frame`, `wait` and `batch` gets.
+-- Demand 3 and the counts for the real calls: what a user of `fresh`, `frame`, `wait` and `batch` gets.
 use mathlib.Core.Path.{_≡_}
 use mathlib.Core.List.{List, [], _∷_}
 use Prim.Native.Nat.{ℕ}
@@ -6,6 +6,7 @@ use Rattle.model.specs.Bounds.{boundsRefusal}
 use Rattle.model.specs.Report.{Report, Answer}
 use Rattle.model.specs.Run.{Entry, Demand3}
 use Rattle.model.specs.Batch.{logged}
+use Rattle.model.specs.Promises.{CountsStand}
 use Rattle.table.specs.declared.Table.{Table as TableRecord}
 use Rattle.table.specs.View.{viewTable}
 use Rattle.port.specs.declared.Port.{Port as PortRecord}
@@ -40,3 +41,8 @@ pub data Chain (t : TableRecord) : PortRecord → List Entry → Type 0 where
 abbrev pub DemandThreeOfCalls : Type 0
 DemandThreeOfCalls = (t : TableRecord) → boundsRefusal (viewTable t) ≡ 0 → (p : PortRecord) (log : List Entry) → Chain t p log
     → Demand3 (viewTable t) (record { port = viewPort p; log = log })
+
+-- the counts of every chain, whether its table has bounds or not: "each count is the number of accepted frame reports it stands for, none
+-- reaches 2^52, and the grand total is the number of all of them"
+abbrev pub CountsOfCalls : Type 0
+CountsOfCalls = (t : TableRecord) (p : PortRecord) (log : List Entry) → Chain t p log → CountsStand (viewTable t) (record { port = viewPort p; log = log })

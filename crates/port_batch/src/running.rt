@@ -73,6 +73,7 @@ pub(crate) fn answered(
     let left = flat_record::queues_of(&frames, &heads, &counts, &marks);
     let charged = flat_record::accounts_of(&credits, &since);
     let counted = flat_record::counts_of(&tallies);
+    let unknown = tallies[1280];
     Batched {
         refused: 0,
         departures: ran.departures,
@@ -86,7 +87,7 @@ pub(crate) fn answered(
                 accounts: charged,
             },
             counts: counted,
-            unknown: tallies[1280],
+            unknown,
         },
     }
 }

@@ -30,7 +30,7 @@ shared-slice-read-if1 c = omega arith
 returns : tie.Need-returns Inv-loop μ-loop
 returns c =
     let a = c .before .before .before .before .args in
-    too-many (a .counts .now) (a .unknown) (a .n) (c .before .before .before .loop .k) (omega arith) (c .if1 .taken)
+    too-many (a .counts .now) (a .unknown) (a .n) (c .before .before .before .loop .k) (omega arith) (omega arith)
 
 add-k : tie.Need-add-k Inv-loop μ-loop
 add-k c = omega arith
@@ -41,7 +41,7 @@ loop-less c = omega arith
 loop-again : tie.Need-loop-again Inv-loop μ-loop
 loop-again c =
     let loop = c .before .before .before .loop in
-    (omega arith, refl, λ j h. so-far (c .before .before .before .before .args .counts .now) (loop .k) (loop .inv .2) (c .if1 .left) j h)
+    (omega arith, refl, λ j h. so-far (c .before .before .before .before .args .counts .now) (loop .k) (loop .inv .2) (omega arith) j h)
 
 returns-2 : tie.Need-returns-2 Inv-loop μ-loop
 returns-2 c =
