@@ -72,7 +72,7 @@ fn sizes_at(s: &[u8], at: usize) -> [u32; 8]
     sizes
 }
 
-// Clock, sender (kind, priority, start), table, line ticks, accounts, queues.
+// Clock, sender (kind, priority, start), table, line ticks, accounts, counts, the unknown one, queues.
 pub fn port_of(s: &[u8]) -> Port
     ensures { λ r. ⌜ r .clock ≡ numberAt 0 8 (now (s .entry)) ⌝ }
 {
@@ -81,7 +81,10 @@ pub fn port_of(s: &[u8]) -> Port
     let line_ticks = ticks_at(s, lines);
     let links = lines + 10 + 8 * given(s, lines + 8, 24);
     let accounts = accounts_at(s, links);
-    let queues = queues_at(s, links + 18 + 16 * given(s, links + 16, 256));
+    let counted = links + 18 + 16 * given(s, links + 16, 256);
+    let counts = counts_at(s, counted);
+    let unknown = counted + 10 + 8 * given(s, counted + 8, 1024);
+    let queues = queues_at(s, unknown + 8);
     let sender = sender_at(s, 8);
     Port {
         table,
@@ -92,6 +95,8 @@ pub fn port_of(s: &[u8]) -> Port
             line_ticks,
             accounts,
         },
+        counts,
+        unknown: read8(s, unknown),
     }
 }
 
@@ -134,6 +139,17 @@ fn accounts_at(s: &[u8], at: usize) -> [Account; 256]
         accounts[i] = account_at(s, at + 18 + 16 * i);
     }
     accounts
+}
+
+fn counts_at(s: &[u8], at: usize) -> [u64; 1024]
+    requires { ⌜ at ≤ 60000 ⌝ }
+{
+    let n = given(s, at + 8, 1024);
+    let mut counts = [read8(s, at); 1024];
+    for i in 0..n {
+        counts[i] = read8(s, at + 10 + 8 * i);
+    }
+    counts
 }
 
 fn frame_at(s: &[u8], at: usize) -> Frame

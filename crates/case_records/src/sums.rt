@@ -146,6 +146,14 @@ fn with_accounts(sum: u64, accounts: [Account; 256]) -> u64 {
     r
 }
 
+fn with_counts(sum: u64, counts: [u64; 1024]) -> u64 {
+    let mut r = sum;
+    for i in 0..1024 {
+        r = with(r, counts[i]);
+    }
+    r
+}
+
 pub fn of_port(port: Port, whole: bool) -> u64
     ensures { λ r. ⌜ r < 2 ^ 32 ⌝ }
 {
@@ -155,7 +163,9 @@ pub fn of_port(port: Port, whole: bool) -> u64
     let gate = port.gate;
     let ticks = gate.line_ticks;
     let accounts = gate.accounts;
+    let counts = port.counts;
     let first = with_table(with(NOTHING, port.clock), table);
     let then = with_sender(with_queues(first, queues, whole), sender);
-    low(with_accounts(with_ticks(then, ticks), accounts))
+    let paid = with_accounts(with_ticks(then, ticks), accounts);
+    low(with(with_counts(paid, counts), port.unknown))
 }

@@ -17,7 +17,7 @@ use units::LIST_ROOM;
 use units::MOST_FRAMES;
 
 // The longest record of a case.
-const BODY: usize = 12000 + 96 * MOST_FRAMES;
+const BODY: usize = 16000 + 96 * MOST_FRAMES;
 
 const REPORT: usize = 35;
 
@@ -86,6 +86,7 @@ fn run(port: Port, many: u16) {
     }
     let last = now.port;
     say_end(last, !now.moved);
+    say_counts(last);
 }
 
 fn next_report(now: Reached) -> Reached {
@@ -144,6 +145,18 @@ fn say_end(port: Port, whole: bool) {
         number(held(q));
         number(q.mark as u64);
     }
+    say(b"\n");
+}
+
+fn say_counts(port: Port) {
+    let s = port_sums::sums_of(port);
+    let of_links = s.sums;
+    say(b"counts ");
+    print(s.refused as u64);
+    number(if s.has_total { 1 } else { 0 });
+    number(s.total);
+    number(port.unknown);
+    number(sums::of_list(&of_links, 256));
     say(b"\n");
 }
 

@@ -28,6 +28,9 @@ loop-again c = search needs
 say-end-requires : tie.Need-say-end-requires Inv-loop μ-loop
 say-end-requires c κs = search needs
 
+say-counts-requires : tie.Need-say-counts-requires Inv-loop μ-loop
+say-counts-requires c κs = search needs
+
 returns : tie.Need-returns Inv-loop μ-loop
 returns c = search needs
 
@@ -43,4 +46,5 @@ run-spec =
     loop-less
     loop-again
     say-end-requires
+    say-counts-requires
     returns)
