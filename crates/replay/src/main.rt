@@ -1,7 +1,9 @@
 // replay TABLE REPORTS: runs the reports of a file through the port of a table file, and prints the
-// answer of each, then held bytes and mark of each priority. A report is five little-endian numbers of
-// 8 bytes: form (0 a wait, 1 a frame), tick, line, number, length.
+// answer of each, then held bytes and mark of each priority, then the counts of each virtual link, of
+// unknown numbers and in total. A report is five little-endian numbers of 8 bytes: form (0 a wait, 1 a
+// frame), tick, line, number, length.
 mod answers;
+mod counts;
 mod parts;
 
 use libc::SEEK_SET;

@@ -2,6 +2,7 @@
 use crate::answers;
 use crate::answers::GIVEN;
 use crate::answers::LIST;
+use crate::counts;
 use libc::STDOUT_FILENO;
 use little_endian::read8;
 use output::Out;
@@ -74,7 +75,7 @@ fn is_run(bytes: &[u8; PART], n: usize) -> bool {
     true
 }
 
-fn least(a: usize, b: usize) -> usize
+pub(crate) fn least(a: usize, b: usize) -> usize
     ensures { λ r. ⌜ r ≤ b ⌝ }
 {
     if a < b { a } else { b }
@@ -94,8 +95,8 @@ pub(crate) fn check(fd: i32) -> u8 {
     state
 }
 
-// Runs every report, part by part, and prints what the queues hold at the end. A file that is not what it was when it
-// was checked counts as one that can't be read.
+// Runs every report, part by part, and prints what the queues hold at the end, then the counts. A file that is not what it
+// was when it was checked counts as one that can't be read.
 pub(crate) fn replay(mut port: Port, fd: i32) -> u8 {
     let mut room = [0u8; ROOM];
     let mut bytes = [0u8; PART];
@@ -137,6 +138,7 @@ fn finished(out: Out, room: &mut [u8; ROOM], port: Port, state: u8) -> Out {
     if state != ENDED {
         return out.written(room);
     }
-    let last = answers::put_end(out, room, port);
+    let queues = answers::put_end(out, room, port);
+    let last = counts::put_counts(queues, room, port);
     last.written(room)
 }
