@@ -1,10 +1,10 @@
 -- Counts in a list, four a link, and the model's sums of them.
-use mathlib.Core.Path.{_≡_, refl, sym, ap, _∙_}
+use mathlib.Core.Path.{_≡_, refl, sym, _∙_}
 use mathlib.Core.List.{List, [], _∷_, _++_}
 use Prim.Native.Nat.{ℕ, zero, suc, _+_, _*_, _^_, _≤_, _<_}
 use native.Mathlib.Numerals.{add-one}
 use native.Mathlib.Omega.{arith}
-use lib.ListN.{length, getD, set, replicate, length-append}
+use lib.ListN.{length, set, replicate, length-append}
 use Rattle.model.specs.Basics.{entries, sumTo}
 use Rattle.model.specs.Units.{fullCount}
 use Rattle.model.specs.Counters.{Counters, verdicts, countAt, linkSum, linkSums, grandTotal}
@@ -13,7 +13,6 @@ use Rattle.model.proofs.Queues.{sumTo-ext}
 use Rattle.model.proofs.Counting.{FitCounts, fit-counts}
 use Rattle.counters.specs.View.{viewCounts}
 use Rattle.counters.proofs.Rows.{count-at}
-use Rattle.port_sums.specs.declared.Added.{Added}
 use Rattle.port_sums.specs.Adding.{countIn, Few, addedUp}
 
 -- ---- one number more of a sum

@@ -1,12 +1,11 @@
 -- The sums of a whole record, by the parts that the code asks.
 use mathlib.Core.Path.{_≡_, ap, subst}
 use mathlib.Core.Bool.{Bool, true, false}
-use mathlib.Core.List.{List, []}
 use Prim.Native.Nat.{ℕ}
 use native.Mathlib.Omega.{arith}
 use lib.Dec.{leb}
 use lib.ListN.{length, replicate}
-use Rattle.model.specs.Basics.{entries, provided}
+use Rattle.model.specs.Basics.{provided}
 use Rattle.model.specs.Units.{fullCount}
 use Rattle.model.specs.Counters.{Counters, noneFull, everyCount}
 use Rattle.model.specs.Fitness.{fit}
@@ -23,7 +22,6 @@ use Rattle.port.specs.declared.Port.{Port as PortRecord}
 use Rattle.port.specs.View.{viewPortTable, viewPort}
 use Rattle.port.proofs.Whole.{Whole}
 use Rattle.port_sums.specs.declared.Added.{Added}
-use Rattle.port_sums.specs.declared.Sums.{Sums as SumsRecord}
 use Rattle.port_sums.specs.View.{recordSums}
 use Rattle.port_sums.specs.Adding.{Few, addedUp}
 

@@ -3,7 +3,7 @@ use port::Port;
 use units::FULL_COUNT;
 ghost use mathlib.Core.Path.{_≡_};
 ghost use mathlib.Core.Bool.{true};
-ghost use Prim.Native.Nat.{ℕ, _+_, _*_, _≤_, _<_};
+ghost use Prim.Native.Nat.{ℕ, _*_, _≤_, _<_};
 ghost use lib.ListN.{length};
 ghost use Rattle.model.specs.Basics.{provided, sumTo};
 ghost use Rattle.model.specs.Units.{fullCount};
