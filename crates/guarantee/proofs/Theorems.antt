@@ -9,7 +9,7 @@ use Rattle.bounds.proofs.Answered.{Answers, sized}
 use Rattle.port.specs.View.{viewPort}
 use Rattle.port_batch.proofs.Chained.{Ran, chain-ran}
 use Rattle.port_batch.proofs.Theorems.{demand-three-of-calls, counts-of-calls}
-use Rattle.port_sums.specs.View.{recordSums}
+use Rattle.counter_sums.specs.View.{recordSums}
 use Rattle.guarantee.specs.Guarantee.{SizingHolds, TotalHolds}
 use Rattle.guarantee.proofs.Answered.{demand-by}
 

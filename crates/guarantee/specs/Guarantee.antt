@@ -14,8 +14,8 @@ use Rattle.bounds.specs.Answer.{recordBounds}
 use Rattle.port.specs.declared.Port.{Port as PortRecord}
 use Rattle.port.specs.View.{viewPortTable, viewPort}
 use Rattle.port_batch.specs.Calls.{Chain}
-use Rattle.port_sums.specs.declared.Sums.{Sums as SumsRecord}
-use Rattle.port_sums.specs.View.{recordSums}
+use Rattle.counter_sums.specs.declared.Sums.{Sums as SumsRecord}
+use Rattle.counter_sums.specs.View.{recordSums}
 
 -- `bounds_of` answered of a table, as its contract says: then every chain of calls on that table meets demand 3 with the very bounds
 -- and holds of the answer

@@ -21,15 +21,8 @@ use Rattle.port_record_fitness.specs.Fitness.{portFitness}
 use Rattle.port.specs.declared.Port.{Port as PortRecord}
 use Rattle.port.specs.View.{viewPortTable, viewPort}
 use Rattle.port.proofs.Whole.{Whole}
-use Rattle.port_sums.specs.declared.Added.{Added}
-use Rattle.port_sums.specs.View.{recordSums}
-use Rattle.port_sums.specs.Adding.{Few, addedUp}
-
--- ---- of counts
-pub of-counts : (n : ℕ) (c : Counters) {a : Added} {b : Bool} {total : ℕ} → a ≡ addedUp n c → b ≡ noneFull n c → total ≡ provided b (a .total) →
-    record { refused = 0; sums = a .sums; «has_total» = b; total = total } ≡ recordSums (sumsIf true n c)
-unfolding sumsIf
-of-counts n c added none e = rw (e, none, added)
+use Rattle.counter_sums.specs.View.{recordSums}
+use Rattle.counter_sums.specs.Adding.{Few}
 
 -- ---- of a record
 module _ (p : PortRecord) where

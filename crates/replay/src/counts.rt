@@ -1,21 +1,48 @@
 // What is printed of the counts.
 use crate::parts::least;
+use counter_sums::Sums;
+use counter_sums::sums_of_counts;
 use output::Out;
 use output::ROOM;
 use port::Port;
+ghost use mathlib.Core.Path.{_≡_};
 ghost use Prim.Native.Nat.{_≤_, _<_};
+ghost use lib.ListN.{length};
 
 // A line for each link, then the unknown numbers and the grand total.
 pub(crate) fn put_counts(out: Out, room: &mut [u8; ROOM], port: Port) -> Out {
-    let s = port_sums::sums_of(port);
-    let sums = s.sums;
     let t = port.table;
     let counts = port.counts;
+    let s = added(&counts, port.unknown, t.count);
+    let sums = s.sums;
     let n = least(t.count as usize, 256);
     let head = out.text(room, b"number stored filtered policed dropped sum\n");
     let links = put_links(head, room, n, &t.numbers, &counts, &sums);
     let u = links.text(room, b"unknown ").number(room, port.unknown);
     put_total(u.text(room, b"\ntotal "), room, s.has_total, s.total)
+}
+
+// What `sums_of` of port_sums gives of a port that is fit, as every one is that comes of a fresh one: its test of the whole record
+// is left out, which would take 49 KB of stack more than a part of the reports does.
+fn added(counts: &[u64; 1024], unknown: u64, n: u16) -> Sums
+    requires { ⌜ length (now counts) ≡ 1024 ⌝ }
+{
+    if n > 256 {
+        return unadded();
+    }
+    if !counters::fit(counts, unknown, n) {
+        return unadded();
+    }
+    sums_of_counts(counts, unknown, n)
+}
+
+fn unadded() -> Sums {
+    Sums {
+        refused: 10,
+        sums: [0u64; 256],
+        has_total: false,
+        total: 0,
+    }
 }
 
 fn put_links(

@@ -3,10 +3,10 @@ use Prim.Native.Nat.{_*_, _-_, _≤_}
 use native.Mathlib.Omega.{arith}
 use Rattle.model.specs.Basics.{sumTo}
 use Rattle.model.specs.Units.{fullCount}
-use Rattle.port_sums.specs.Adding.{countIn}
-use Rattle.port_sums.proofs.Adding.{none-yet, one-more, all-four}
-use Rattle.port_sums.proofs.link_sum.Statement.{statement}
-use Rattle.port_sums.proofs.link_sum.Tie as tie
+use Rattle.counter_sums.specs.Adding.{countIn}
+use Rattle.counter_sums.proofs.Adding.{none-yet, one-more, all-four}
+use Rattle.counter_sums.proofs.link_sum.Statement.{statement}
+use Rattle.counter_sums.proofs.link_sum.Tie as tie
 
 abbrev Inv-loop : tie.InvT-loop
 Inv-loop counts i sum₀ v₀ sum v = (v ≤ 4) × (sum ≡ sumTo (countIn counts i) v) × (sum ≤ v * fullCount)

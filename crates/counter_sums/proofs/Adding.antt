@@ -13,7 +13,7 @@ use Rattle.model.proofs.Queues.{sumTo-ext}
 use Rattle.model.proofs.Counting.{FitCounts, fit-counts}
 use Rattle.counters.specs.View.{viewCounts}
 use Rattle.counters.proofs.Rows.{count-at}
-use Rattle.port_sums.specs.Adding.{countIn, Few, addedUp}
+use Rattle.counter_sums.specs.Adding.{countIn, Few, addedUp}
 
 -- ---- one number more of a sum
 pub none-yet : (f : ℕ → ℕ) → 0 ≡ sumTo f 0

@@ -9,7 +9,7 @@ use Rattle.model.specs.Basics.{entries}
 use Rattle.model.specs.Units.{fullCount}
 use Rattle.model.specs.Counters.{Counters, linkSums, grandTotal, everyCount}
 use Rattle.counters.specs.View.{viewCounts}
-use Rattle.port_sums.specs.declared.Added.{Added}
+use Rattle.counter_sums.specs.declared.Added.{Added}
 
 -- the count of the link at a place, by its verdict
 abbrev pub countIn : List ℕ → ℕ → ℕ → ℕ

@@ -1,7 +1,7 @@
 -- The record of the model's sums.
 use Rattle.model.specs.Basics.{entries}
 use Rattle.model.specs.Sums.{Sums}
-use Rattle.port_sums.specs.declared.Sums.{Sums as SumsRecord}
+use Rattle.counter_sums.specs.declared.Sums.{Sums as SumsRecord}
 
 -- 0 stands behind the sums
 abbrev pub recordSums : Sums → SumsRecord

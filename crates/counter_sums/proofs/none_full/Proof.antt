@@ -3,9 +3,9 @@ use Prim.Native.Nat.{ℕ, _*_, _-_, _≤_, _<_}
 use native.Mathlib.Omega.{arith}
 use lib.ListN.{getD}
 use Rattle.model.specs.Units.{fullCount}
-use Rattle.port_sums.proofs.Full.{so-far, one-full, none-of-links}
-use Rattle.port_sums.proofs.none_full.Statement.{statement}
-use Rattle.port_sums.proofs.none_full.Tie as tie
+use Rattle.counter_sums.proofs.Full.{so-far, one-full, none-of-links}
+use Rattle.counter_sums.proofs.none_full.Statement.{statement}
+use Rattle.counter_sums.proofs.none_full.Tie as tie
 
 abbrev Inv-loop : tie.InvT-loop
 Inv-loop counts unknown n end k₀ k = (k ≤ end) × (end ≡ 4 * n) × ((j : ℕ) → j < k → getD counts j 0 < fullCount)

@@ -1,8 +1,8 @@
 use borrow.Author.Needs.{needs}
 use Rattle.counters.specs.View.{viewCounts}
-use Rattle.port_sums.proofs.Whole.{of-counts}
-use Rattle.port_sums.proofs.sums_of_counts.Statement.{statement}
-use Rattle.port_sums.proofs.sums_of_counts.Tie as tie
+use Rattle.counter_sums.proofs.Answered.{of-counts}
+use Rattle.counter_sums.proofs.sums_of_counts.Statement.{statement}
+use Rattle.counter_sums.proofs.sums_of_counts.Tie as tie
 
 add-up-requires : tie.Need-add-up-requires
 add-up-requires c κs = search needs

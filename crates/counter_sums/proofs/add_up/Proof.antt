@@ -4,9 +4,9 @@ use native.Mathlib.Omega.{arith}
 use Rattle.model.specs.Basics.{entries}
 use Rattle.model.specs.Counters.{linkSums, grandTotal}
 use Rattle.counters.specs.View.{viewCounts}
-use Rattle.port_sums.proofs.Adding.{each-few, sums-none, total-none, total-fits, sums-more, total-more, all-links}
-use Rattle.port_sums.proofs.add_up.Statement.{statement}
-use Rattle.port_sums.proofs.add_up.Tie as tie
+use Rattle.counter_sums.proofs.Adding.{each-few, sums-none, total-none, total-fits, sums-more, total-more, all-links}
+use Rattle.counter_sums.proofs.add_up.Statement.{statement}
+use Rattle.counter_sums.proofs.add_up.Tie as tie
 
 abbrev Inv-loop : tie.InvT-loop
 Inv-loop counts unknown n end sums₀ total₀ i₀ sums total i =

@@ -1,7 +1,7 @@
 use borrow.Author.Needs.{needs}
 use Rattle.model.specs.Basics.{provided}
-use Rattle.port_sums.proofs.total_if.Statement.{statement}
-use Rattle.port_sums.proofs.total_if.Tie as tie
+use Rattle.counter_sums.proofs.total_if.Statement.{statement}
+use Rattle.counter_sums.proofs.total_if.Tie as tie
 
 returns : tie.Need-returns
 unfolding provided

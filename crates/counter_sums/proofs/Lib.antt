@@ -1,0 +1,3 @@
+pub mod Adding
+pub mod Full
+pub mod Answered
