@@ -22,8 +22,8 @@ pub(crate) fn put_counts(out: Out, room: &mut [u8; ROOM], port: Port) -> Out {
     put_total(u.text(room, b"\ntotal "), room, s.has_total, s.total)
 }
 
-// What `sums_of` of port_sums gives of a port that is fit, as every one is that comes of a fresh one: its test of the whole record
-// is left out, which would take 49 KB of stack more than a part of the reports does.
+// What `sums_of` of port_sums gives of a port that is fit, as every one is that comes of a fresh one. Its test of the whole record
+// is left out: in a second place of the program it would take 19 KB of stack more.
 fn added(counts: &[u64; 1024], unknown: u64, n: u16) -> Sums
     requires { ⌜ length (now counts) ≡ 1024 ⌝ }
 {
