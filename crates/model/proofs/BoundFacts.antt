@@ -3,7 +3,7 @@
 use mathlib.Core.Path.{_≡_, refl, sym, _∙_}
 use mathlib.Core.Bool.{Bool, true, false}
 use mathlib.Core.Option.{Option, none, some}
-use Prim.Native.Nat.{ℕ, _-_, _≤_, _<_}
+use Prim.Native.Nat.{ℕ, _+_, _-_, _≤_, _<_, min}
 use native.Mathlib.Decide.{decLe}
 use native.Mathlib.Omega.{arith}
 use lib.Dec.{eqb}
@@ -62,6 +62,16 @@ first-greatest g n l = go (firstFrom test n 0) refl
 -- of zeros
 first-zero : (g : ℕ → ℕ) (n : ℕ) → 0 < n → ((k : ℕ) → g k ≡ 0) → FirstGreatest g n 0 0
 first-zero g n l h = record { greatest = λ k x. omega (arith, h k); within = l; attained = h 0; earlier = λ k x. absurd (omega arith) }
+
+-- ---- the smaller of A_p and A_up − what has left + M − 1 grows with A_p, A_up and M, and falls with what has left
+less-left : (u u' x y m m' : ℕ) → u ≤ u' → x ≤ y → m ≤ m' → u - y + m - 1 ≤ u' - x + m' - 1
+less-left u u' x y m m' k l h = omega arith
+
+smaller-of-both : (a a' c d : ℕ) → a ≤ a' → c ≤ d → min a c ≤ min a' d
+smaller-of-both a a' c d l m = omega arith
+
+pub amount-grows : (a a' u u' x y m m' : ℕ) → a ≤ a' → u ≤ u' → x ≤ y → m ≤ m' → min a (u - y + m - 1) ≤ min a' (u' - x + m' - 1)
+amount-grows a a' u u' x y m m' j k l h = smaller-of-both a a' (u - y + m - 1) (u' - x + m' - 1) j (less-left u u' x y m m' k l h)
 
 pub unused : (t : Table) (p : ℕ) → anyOf (ofPriority p) (t .links) ≡ false → (bound t p ≡ 0) × (window t p ≡ 0)
 unfolding bound boundWithin window windowWithin

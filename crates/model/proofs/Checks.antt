@@ -81,6 +81,10 @@ abbrev pub Apart : ℕ → List Check → Type 0
 Apart n [] = Unit {0}
 Apart n (c ∷ cs) = (c .number ≢ n) × Apart n cs
 
+pub apart-append : (n : ℕ) (a b : List Check) → Apart n a → Apart n b → Apart n (a ++ b)
+apart-append n [] b p q = q
+apart-append n (c ∷ a) b p q = (p .0, apart-append n a b (p .1) q)
+
 pub first-apart : (n : ℕ) (cs : List Check) → 0 < n → Apart n cs → firstMet cs ≡ n → ⊥
 unfolding firstMet
 first-apart n [] h each e = omega arith

@@ -103,7 +103,7 @@ greatest-within set set' f (v ∷ links) h = go (set v) refl (greatest-within se
     go false e ih = rw e (omega arith)
 
 -- ---- curves
-div-mono : (b x y : ℕ) → 0 < b → x ≤ y → x / b ≤ y / b
+pub div-mono : (b x y : ℕ) → 0 < b → x ≤ y → x / b ≤ y / b
 div-mono b x y p h = le-div-iff-mul-le p .1 (le-trans (div-mul-le-self x b) h)
 
 pub frameCurve-mono : (v : VirtualLink) (w w' : ℕ) → w ≤ w' → frameCurve v w ≤ frameCurve v w'

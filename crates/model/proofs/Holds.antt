@@ -1,19 +1,22 @@
 -- The hold is the smallest, or there is none; by climbing; and of a table that has bounds each priority has one.
 use mathlib.Core.Path.{_≡_, refl, sym, _∙_}
+use mathlib.Core.Logic.{_⊎_, inl, inr}
 use mathlib.Core.Bool.{Bool, true, false, not}
 use mathlib.Core.Option.{Option, none, some}
 use mathlib.Core.List.{List, [], _∷_, _++_}
-use Prim.Native.Nat.{ℕ, _+_, _-_, _≤_, _<_}
+use Prim.Native.Nat.{ℕ, zero, suc, _+_, _-_, _≤_, _<_}
 use native.Mathlib.Nat.{lt-of-not-le}
 use native.Mathlib.Decide.{decLe}
 use native.Mathlib.Omega.{arith}
 use lib.Dec.{T, eqb, leb, leb→le}
+use lib.ListN.{length}
 use borrow.Author.Tests.{eqb-true, leb-true, leb-false, le-leb, lt-leb, not-false}
-use Rattle.model.specs.Basics.{allTo, allHold, firstFrom, Check, check, firstMet}
-use Rattle.model.specs.Table.{Table, tableChecks, tableRefusal}
+use Rattle.model.specs.Basics.{allTo, allHold, firstFrom, Check, check, firstMet, firstRefusal}
+use Rattle.model.specs.Link.{VirtualLink}
+use Rattle.model.specs.Table.{Table, countChecks, linksChecks, lineChecks, sizeChecks, tableChecks, tableRefusal}
 use Rattle.model.specs.Bounds.{ofPriority, upTo, ownArrivals, upArrivals, blocking, holdTest, holdBy, holdOf, isThere, orZero, boundsRefusal, hold}
 use Rattle.model.specs.Promises.{IsHold, HoldIsSmallest, HoldGrows}
-use Rattle.model.proofs.Checks.{AllTrue, all-true, all-to, to-all, not-all, first-past, none-met, numbered-append, none-front, none-back, first-none, NoneMet}
+use Rattle.model.proofs.Checks.{AllTrue, all-true, all-to, to-all, not-all, first-past, first-append, Apart, apart-append, first-apart, none-met, numbered-append, none-front, none-back, first-none, NoneMet}
 use Rattle.model.proofs.TableFacts.{table-numbered}
 use Rattle.model.proofs.Search.{IsFirst, found-first, found-none, first-sooner, is-first, is-none, climb, climb-below}
 use Rattle.model.proofs.Curves.{curve-grows}
@@ -135,3 +138,35 @@ module _ (t : Table) (passes : tableRefusal t ≡ 0) where
   pub all-holds : ((p : ℕ) → p < 8 → isThere (holdOf t p) ≡ true) → boundsRefusal t ≡ 0
   unfolding firstMet
   all-holds h = rw (past-table, to-all (λ q. isThere (holdOf t q)) 8 h)
+
+  pub has-or-lacks : (boundsRefusal t ≡ 0) ⊎ (boundsRefusal t ≡ 8)
+  unfolding firstMet
+  has-or-lacks = go (allTo (λ p. isThere (holdOf t p)) 8) past-table
+    where
+      go : (b : Bool) → boundsRefusal t ≡ firstMet (check 8 (not b) ∷ []) → (boundsRefusal t ≡ 0) ⊎ (boundsRefusal t ≡ 8)
+      go true e = inl e
+      go false e = inr e
+
+-- 8 comes behind the checks of a table by itself
+links-apart : (lines : ℕ) (previous : Option ℕ) (links : List VirtualLink) → Apart 8 (linksChecks lines previous links)
+unfolding linksChecks
+links-apart lines previous [] = tt
+links-apart lines previous (v ∷ links) = (λ e. omega arith, (λ e. omega arith, links-apart lines (some (v .number)) links))
+
+table-apart : (t : Table) → Apart 8 (tableChecks t)
+unfolding tableChecks
+table-apart t =
+    let counts = countChecks (t .lines) (length (t .links)) in
+    let links = linksChecks (t .lines) none (t .links) in
+    let lines = lineChecks (t .lines) (t .links) in
+    apart-append 8 (counts ++ links ++ lines) (sizeChecks (t .sizes))
+    (apart-append 8 (counts ++ links) lines (apart-append 8 counts links (λ e. omega arith, tt) (links-apart (t .lines) none (t .links))) (λ e. omega arith, tt))
+    (λ e. omega arith, tt)
+
+pub lacks-passes : (t : Table) → boundsRefusal t ≡ 8 → tableRefusal t ≡ 0
+unfolding boundsRefusal tableRefusal firstRefusal
+lacks-passes t e = go (firstMet (tableChecks t)) refl (sym (first-append (tableChecks t) _ (table-numbered t)) ∙ e)
+  where
+    go : (n : ℕ) → firstMet (tableChecks t) ≡ n → firstRefusal n (firstMet (check 8 (not (allTo (λ p. isThere (holdOf t p)) 8)) ∷ [])) ≡ 8 → n ≡ 0
+    go zero q x = refl
+    go (suc n) q x = absurd (first-apart 8 (tableChecks t) (omega arith) (table-apart t) (q ∙ x))

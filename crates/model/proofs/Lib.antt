@@ -19,6 +19,7 @@ pub mod Curves
 pub mod Holds
 pub mod BoundFacts
 pub mod Covering
+pub mod Sensitivity
 pub mod Reserving
 pub mod Peaks
 -- ---- the gate: what passes it is within the arrival curve; links that keep BAG and jitter
@@ -70,4 +71,6 @@ pub mod BatchExamples
 pub mod NextExamples
 pub mod LineExamples
 pub mod CountExamples
+pub mod EditExamples
+pub mod Counterexamples
 pub mod Theorems

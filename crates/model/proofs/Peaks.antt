@@ -4,6 +4,7 @@ use mathlib.Core.Path.{_≡_, refl}
 use mathlib.Core.Bool.{Bool, true, false, cond, _&&_, and-eq-true-iff}
 use mathlib.Core.List.{[], _∷_}
 use Prim.Native.Nat.{ℕ, zero, suc, _+_, _-_, _/_, _≤_, _<_, min}
+use native.Mathlib.Nat.{le-refl}
 use native.Mathlib.Decide.{decLe}
 use native.Mathlib.Omega.{arith}
 use lib.Dec.{eqb, ltb}
@@ -13,7 +14,7 @@ use Rattle.model.specs.Table.{Table}
 use Rattle.model.specs.Bounds.{ownArrivals, upArrivals, longest, blocking, backlog, orZero, hold, bound, window}
 use Rattle.model.proofs.Checks.{all-true}
 use Rattle.model.proofs.Holds.{own-grows, up-grows, hold-is, climbsTo, climbed}
-use Rattle.model.proofs.BoundFacts.{FirstGreatest, first-one, highest}
+use Rattle.model.proofs.BoundFacts.{FirstGreatest, first-one, amount-grows, highest}
 
 -- ---- every number of a stretch is below the limit: by its cap, or in halves
 unfoldable pub allBelow : (ℕ → ℕ → ℕ) → ℕ → ℕ → ℕ → ℕ → Bool
@@ -42,20 +43,14 @@ module _ (g : ℕ → ℕ) (cap : ℕ → ℕ → ℕ) (capped : (s e k : ℕ) �
 unfoldable pub backlogCap : Table → ℕ → ℕ → ℕ → ℕ
 backlogCap t p s e = min (ownArrivals t p e) (upArrivals t p e - (s - blocking t p) + longest t p - 1)
 
-smaller-of-both : (a a' c d : ℕ) → a ≤ a' → c ≤ d → min a c ≤ min a' d
-smaller-of-both a a' c d l m = omega arith
-
-less-left : (u u' x y m : ℕ) → u ≤ u' → x ≤ y → u - y + m - 1 ≤ u' - x + m - 1
-less-left u u' x y m l h = omega arith
-
 later-left : (x y b : ℕ) → x ≤ y → x - b ≤ y - b
 later-left x y b l = omega arith
 
 backlog-capped : (t : Table) (p s e k : ℕ) → s ≤ k → k ≤ e → backlog t p k ≤ backlogCap t p s e
 unfolding backlog backlogCap
 backlog-capped t p s e k l m =
-    smaller-of-both (ownArrivals t p k) (ownArrivals t p e) _ _ (own-grows t p k e m)
-    (less-left (upArrivals t p k) (upArrivals t p e) (s - blocking t p) (k - blocking t p) (longest t p) (up-grows t p k e m) (later-left s k (blocking t p) l))
+    amount-grows (ownArrivals t p k) (ownArrivals t p e) (upArrivals t p k) (upArrivals t p e) (s - blocking t p) (k - blocking t p) (longest t p) (longest t p)
+    (own-grows t p k e m) (up-grows t p k e m) (later-left s k (blocking t p) l) (le-refl (longest t p))
 
 -- ---- of the windows below n the amount is at most m, and is m at w first
 unfoldable pub earlierBelow : Table → ℕ → ℕ → ℕ → Bool

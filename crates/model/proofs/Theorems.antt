@@ -1,7 +1,7 @@
 -- The theorems of specs/Promises.antt and specs/Examples.antt, each under its name.
 use Rattle.model.specs.Basics.{also}
 use Rattle.model.proofs.Lists.{each-of-both}
-use Rattle.model.specs.Promises.{ReadsWritten, WritesRead, FileLength, BagConstants, LastBag, DemandThree, NeverUnfit, FitnessKept, LengthsKept, CountsAddUp, TurnsAreRuns, DemandThreeOfTurns, CurveGrows, HoldIsSmallest, HoldGrows, BoundIsGreatest, HoldCovers, HoldCarries, NoneRefusedNow, OversoldUnbounded, RowsCarried, OversoldUnfit, NoneAppears, DeparturesInTime, DeparturesSpaced, PassedKeep, DigitsRead, DigitsWritten, AmongByDistance, OneOfTwo, SelectedAlways}
+use Rattle.model.specs.Promises.{ReadsWritten, WritesRead, FileLength, BagConstants, LastBag, DemandThree, NeverUnfit, FitnessKept, LengthsKept, CountsAddUp, TurnsAreRuns, DemandThreeOfTurns, CurveGrows, HoldIsSmallest, HoldGrows, BoundIsGreatest, HoldCovers, EditsBelowUnseen, NoneSmaller, NoneRegained, BoundsKept, HoldCarries, NoneRefusedNow, OversoldUnbounded, RowsCarried, OversoldUnfit, NoneAppears, DeparturesInTime, DeparturesSpaced, PassedKeep, DigitsRead, DigitsWritten, AmongByDistance, OneOfTwo, SelectedAlways}
 use Rattle.model.specs.Examples.{ExamplesCorrect}
 use Rattle.model.proofs.Digits as Digits
 use Rattle.model.proofs.ReadBack as ReadBack
@@ -12,6 +12,7 @@ use Rattle.model.proofs.Holds as Holds
 use Rattle.model.proofs.BoundFacts as BoundFacts
 use Rattle.model.proofs.Covering as Covering
 use Rattle.model.proofs.Reserving as Reserving
+use Rattle.model.proofs.Sensitivity as Sensitivity
 use Rattle.model.proofs.Fitness as Fitness
 use Rattle.model.proofs.FitKept as FitKept
 use Rattle.model.proofs.Counts as Counts
@@ -29,6 +30,7 @@ use Rattle.model.proofs.BatchExamples as batched
 use Rattle.model.proofs.NextExamples as hopped
 use Rattle.model.proofs.LineExamples as carried
 use Rattle.model.proofs.CountExamples as added
+use Rattle.model.proofs.EditExamples as changed
 
 pub reads-written : ReadsWritten
 reads-written = ReadBack.read-written
@@ -81,6 +83,18 @@ bound-is-greatest = BoundFacts.bound-greatest
 pub hold-covers : HoldCovers
 hold-covers = Covering.hold-covers
 
+pub edits-below-unseen : EditsBelowUnseen
+edits-below-unseen = Sensitivity.edits-below-unseen
+
+pub none-smaller : NoneSmaller
+none-smaller = Sensitivity.none-smaller
+
+pub none-regained : NoneRegained
+none-regained = Sensitivity.none-regained
+
+pub bounds-kept : BoundsKept
+bounds-kept = Sensitivity.bounds-kept
+
 pub hold-carries : HoldCarries
 hold-carries = Reserving.hold-carries
 
@@ -129,4 +143,4 @@ examples-correct =
     also formed.a (also formed.b (also shown.c (also shown.d (also shown.e (also shown.f (also shown.g (also formed.h (also climbed.i (also climbed.j (also shown.k (also formed.l
     (also shown.m (also shown.n (also shown.o (also shown.p (also shown.q (also shown.r (also shown.s (also shown.t (also shown.u (also shown.v (also shown.w (also shown.x (also shown.y
     (also climbed.sizingE (also formed.windowK (also formed.windowP (also formed.windowO0 (also shown.windowO1 (also shown.windowNt0 (also formed.windowNt3 (also climbed.sizingNt
-    (also formed.boundC (also full.filledC (also climbed.sheetE (also climbed.sheetNt (each-of-both told.words-correct (each-of-both selected.selections-correct (each-of-both batched.batches-correct (each-of-both hopped.hops-correct (each-of-both carried.carriage-correct added.counts-correct)))))))))))))))))))))))))))))))))))))))))
+    (also formed.boundC (also full.filledC (also climbed.sheetE (also climbed.sheetNt (each-of-both told.words-correct (each-of-both selected.selections-correct (each-of-both batched.batches-correct (each-of-both hopped.hops-correct (each-of-both carried.carriage-correct (each-of-both added.counts-correct changed.edits-correct))))))))))))))))))))))))))))))))))))))))))

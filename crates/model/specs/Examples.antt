@@ -1,5 +1,5 @@
 -- The ten marked examples of the paper, a to j, and ours: k to y, windows, a full buffer (table C), whole answers and sheets, the words of
--- demand 3, networks A and B, batches, the next switch on the way, lines oversold, and counts, as one list.
+-- demand 3, networks A and B, batches, the next switch on the way, lines oversold, counts, and edits of a table, as one list.
 use mathlib.Core.Path.{_≡_}
 use mathlib.Core.Bool.{true, false}
 use mathlib.Core.List.{List, [], _∷_, _++_, map, reverse}
@@ -1002,6 +1002,36 @@ unknownFull =
 abbrev pub adding : List Example
 adding = rigDay ∷ nearlyFull ∷ nowFull ∷ staysFull ∷ pastFull ∷ allNearlyFull ∷ unknownFull ∷ []
 
+-- ---- edits of a table
+
+-- E, with another link in the place of link 2
+abbrev pub withSecond : VirtualLink → Table
+withSecond v = tableOf 2 (plain 1 0 0 500 ∷ v ∷ []) (2_000 ∷ 2_000 ∷ [])
+
+-- "E with link 2 moved to priority 5 with jitter 125,000: priority 0 stays (480, 1499, 0)"
+abbrev pub movedE : Table
+movedE = withSecond (record { number = 2; line = 1; priority = 5; code = 0; least = 84; greatest = 1_000; jitter = 125_000 })
+
+abbrev pub movedStays : Example
+movedStays = gives-bound movedE 0 480 1_499 0
+
+-- "E with link 2 of 1,001: (480, 1500, 0), (981, 1501, 0)"
+abbrev pub longerE : Table
+longerE = withSecond (plain 2 1 1 1_001)
+
+abbrev pub longerFirst : Example
+longerFirst = gives-bound longerE 0 480 1_500 0
+
+abbrev pub longerSecond : Example
+longerSecond = gives-bound longerE 1 981 1_501 0
+
+-- "Windows may fall": O, with jitter 12,001 first at its bound 499 ticks in (windowO1), "jitter 12,500 window 480"
+abbrev pub windowO2 : Example
+windowO2 = gives-bound (late 12_500) 0 960 1_000 480
+
+abbrev pub edits : List Example
+edits = movedStays ∷ longerFirst ∷ longerSecond ∷ windowO2 ∷ []
+
 abbrev pub batches : List Example
 batches =
     batchTwo ∷ batchShort ∷ batchRest ∷ batchGoesOn ∷ batchUncut ∷ batchForm ∷ batchWideForm ∷ batchPart ∷ batchNoRoom ∷ batchBoth ∷ batchNone
@@ -1017,7 +1047,7 @@ selections = map selects recordings
 abbrev pub examples : List Example
 examples =
     a ∷ b ∷ c ∷ d ∷ e ∷ f ∷ g ∷ h ∷ i ∷ j ∷ k ∷ l ∷ m ∷ n ∷ o ∷ p ∷ q ∷ r ∷ s ∷ t ∷ u ∷ v ∷ w ∷ x ∷ y
-    ∷ sizingE ∷ windowK ∷ windowP ∷ windowO0 ∷ windowO1 ∷ windowNt0 ∷ windowNt3 ∷ sizingNt ∷ boundC ∷ filledC ∷ sheetE ∷ sheetNt ∷ (words ++ (selections ++ (batches ++ (hops ++ (carriage ++ adding)))))
+    ∷ sizingE ∷ windowK ∷ windowP ∷ windowO0 ∷ windowO1 ∷ windowNt0 ∷ windowNt3 ∷ sizingNt ∷ boundC ∷ filledC ∷ sheetE ∷ sheetNt ∷ (words ++ (selections ++ (batches ++ (hops ++ (carriage ++ (adding ++ edits))))))
 
 abbrev pub ExamplesCorrect : Type 0
 ExamplesCorrect = Each Correct examples

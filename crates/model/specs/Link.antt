@@ -42,7 +42,12 @@ unfoldable pub placeOf : ℕ → List VirtualLink → Option ℕ
 placeOf n [] = none
 placeOf n (v ∷ links) = cond (eqb (v .number) n) (some 0) (further (placeOf n links))
 
--- A set of virtual links is a test. Over the members of a set among the links: whether there is one; a sum; the greatest, 0 if there is none
+-- A set of virtual links is a test. Over the members of a set among the links: they themselves, in order; whether there is one; a sum; the
+-- greatest, 0 if there is none
+unfoldable pub membersOf : (VirtualLink → Bool) → List VirtualLink → List VirtualLink
+membersOf set [] = []
+membersOf set (v ∷ links) = cond (set v) (v ∷ membersOf set links) (membersOf set links)
+
 unfoldable pub anyOf : (VirtualLink → Bool) → List VirtualLink → Bool
 anyOf set [] = false
 anyOf set (v ∷ links) = cond (set v) true (anyOf set links)

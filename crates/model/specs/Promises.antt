@@ -8,12 +8,12 @@ use lib.Dec.{eqb, leb}
 use lib.ListN.{length, getD}
 use Rattle.model.specs.Basics.{eight, allTo, Check, check, firstMet}
 use Rattle.model.specs.Units.{lineCapacity, fullCount}
-use Rattle.model.specs.Link.{VirtualLink, bagOf, standardBags, linkAt, placeOf, anyOf, sumOver}
+use Rattle.model.specs.Link.{VirtualLink, bagOf, standardBags, linkAt, placeOf, membersOf, anyOf, sumOver, greatestOver}
 use Rattle.model.specs.Table.{Table, countChecks, linksChecks, reservation, noneOversold, lineChecks, sizeChecks, tableRefusal}
 use Rattle.model.specs.Digits.{digitsOf, fromDigits, AllDigits}
 use Rattle.model.specs.TableFile.{tableBytes, readTable, fileLength}
 use Rattle.model.specs.Arrival.{arrivalCurve}
-use Rattle.model.specs.Bounds.{ofPriority, upArrivals, blocking, holdBy, holdOf, backlog, isThere, boundsRefusal, hold, bound, window}
+use Rattle.model.specs.Bounds.{ofPriority, upTo, beyond, upArrivals, blocking, holdBy, holdOf, backlog, isThere, boundsRefusal, hold, bound, window}
 use Rattle.model.specs.NextTable.{nextLinks}
 use Rattle.model.specs.Machine.{Frame, Departure, advance, framesHeld}
 use Rattle.model.specs.Counters.{verdicts, countAt, linkSums}
@@ -142,6 +142,48 @@ BoundIsGreatest = (t : Table) → boundsRefusal t ≡ 0 → (p : ℕ) → p < 8 
 -- for the next switch is never truncated
 abbrev pub HoldCovers : Type 0
 HoldCovers = (t : Table) → boundsRefusal t ≡ 0 → (i : ℕ) → i < length (t .links) → linkAt (t .links) i .greatest ≤ hold t (linkAt (t .links) i .priority)
+
+-- ---- edits of a table
+
+-- two tables "agree .. on all links of priority 0 to p, and on the greatest L below them in priority", or have none below in both, for which 0
+-- stands. That they agree "on line count" is not asked: links that pass stand on lines below both counts, and a line without members adds 0
+pub record AgreeTo (p : ℕ) (t u : Table) : Type 0 where
+  pub links-same : membersOf (upTo p) (t .links) ≡ membersOf (upTo p) (u .links)
+  pub longest-below : greatestOver (beyond p) (λ v. v .greatest) (t .links) ≡ greatestOver (beyond p) (λ v. v .greatest) (u .links)
+
+-- of "two tables that pass their own checks": "bounds and holds of 0 to p agree", and windows. Nor is it asked that both have bounds: where one
+-- has no such hold, neither has the other
+abbrev pub EditsBelowUnseen : Type 0
+EditsBelowUnseen = (t u : Table) → tableRefusal t ≡ 0 → tableRefusal u ≡ 0 → (p : ℕ) → AgreeTo p t u → (q : ℕ) → q ≤ p
+    → (bound t q ≡ bound u q) × (hold t q ≡ hold u q) × (window t q ≡ window u q) × (holdOf t q ≡ holdOf u q)
+
+-- a link, and what an edit made of it: "only .. some larger L or larger jitter". Number and least length, which bounds and holds do not take,
+-- may be any
+pub record NoSmaller (v u : VirtualLink) : Type 0 where
+  pub line-same : v .line ≡ u .line
+  pub priority-same : v .priority ≡ u .priority
+  pub code-same : v .code ≡ u .code
+  pub greatest-kept : v .greatest ≤ u .greatest
+  pub jitter-kept : v .jitter ≤ u .jitter
+
+-- the second list has, in order, what became of each link of the first; links may have been added anywhere
+pub data Grown : List VirtualLink → List VirtualLink → Type 0 where
+  over : Grown [] []
+  edited : {v u : VirtualLink} {links grown : List VirtualLink} → NoSmaller v u → Grown links grown → Grown (v ∷ links) (u ∷ grown)
+  added : {u : VirtualLink} {links grown : List VirtualLink} → Grown links grown → Grown links (u ∷ grown)
+
+-- "if the second differs from the first only by some larger L or larger jitter, no bound and no hold is smaller in it", nor where links were
+-- added. Windows may fall: that of table O does, from 499 to 480, where its jitter rises from 12,001 to 12,500
+abbrev pub NoneSmaller : Type 0
+NoneSmaller = (t u : Table) → Grown (t .links) (u .links) → boundsRefusal u ≡ 0 → (p : ℕ) → p < 8 → (bound t p ≤ bound u p) × (hold t p ≤ hold u p)
+
+-- "If the first of such a pair has no bounds, neither has the second"
+abbrev pub NoneRegained : Type 0
+NoneRegained = (t u : Table) → Grown (t .links) (u .links) → tableRefusal u ≡ 0 → boundsRefusal t ≡ 8 → boundsRefusal u ≡ 8
+
+-- and the other way round: if the second has bounds, so has the first
+abbrev pub BoundsKept : Type 0
+BoundsKept = (t u : Table) → Grown (t .links) (u .links) → tableRefusal t ≡ 0 → boundsRefusal u ≡ 0 → boundsRefusal t ≡ 0
 
 -- ---- lines oversold
 
