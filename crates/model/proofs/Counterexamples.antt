@@ -6,11 +6,11 @@ use mathlib.Core.List.{List, [], _∷_}
 use Prim.Native.Nat.{ℕ, zero, suc, _≤_, _<_}
 use native.Mathlib.Nat.{le-refl}
 use native.Mathlib.Omega.{arith}
-use lib.ListN.{length}
+use lib.ListN.{length, replicate}
 use Rattle.model.specs.Basics.{provided, allTo}
 use Rattle.model.specs.Link.{VirtualLink, linkAt, membersOf, greatestOver}
 use Rattle.model.specs.Table.{Table, tableRefusal}
-use Rattle.model.specs.Bounds.{upTo, beyond, holdOf, orZero, boundsRefusal, hold, bound, window}
+use Rattle.model.specs.Bounds.{upTo, beyond, holdOf, orZero, boundsRefusal, hold, bound, window, sizedOr, sizing}
 use Rattle.model.specs.Promises.{AgreeTo, NoSmaller, Grown, over, edited, added}
 use Rattle.model.specs.Examples.{plain, tableOf, sizedE, tableE, threeLines, oneBusyLine, late, withSecond, movedE, longerE, Correct}
 use Rattle.model.specs.Examples as example
@@ -179,49 +179,66 @@ all-needed =
       uncovered = λ g. omega (arith, grown-length g);
     }
 
--- ---- bounds and checks of the two, in NoneSmaller, NoneRegained and BoundsKept
+-- windows are not among what grows: that of table O falls where its jitter rises from 12,001 to 12,500
+late-grown : (j k : ℕ) → j ≤ k → Grown (late j .links) (late k .links)
+late-grown j k l = edited (record { line-same = refl; priority-same = refl; code-same = refl; greatest-kept = le-refl 500; jitter-kept = l }) over
 
--- three links of priority 0 on three lines: with jitter 125,000 they have no bounds
+pub windows-may-fall : Grown (late 12_001 .links) (late 12_500 .links) × (window (late 12_001) 0 ≡ 499) × (window (late 12_500) 0 ≡ 480)
+unfolding Correct
+windows-may-fall = (late-grown 12_001 12_500 (omega arith), shown.windowO1 .2, changed.windowO2 .2)
+
+-- ---- bounds and checks of the two, in NoneSmaller, NoneRegained, BoundsKept and the answers of calls
+
+-- three links of priority 1 on three lines, and one of 84 above them: with jitter 125,000 they have no bounds
 abbrev burst : ℕ → ℕ → ℕ → VirtualLink
-burst greatest jitter n = record { number = n; line = n; priority = 0; code = 0; least = 84; greatest = greatest; jitter = jitter }
+burst greatest jitter n = record { number = n; line = n; priority = 1; code = 0; least = 84; greatest = greatest; jitter = jitter }
 
 abbrev bursts : ℕ → ℕ → Table
-bursts greatest jitter = tableOf 3 (burst greatest jitter 0 ∷ burst greatest jitter 1 ∷ burst greatest jitter 2 ∷ []) []
+bursts greatest jitter = tableOf 3 (burst greatest jitter 0 ∷ burst greatest jitter 1 ∷ burst greatest jitter 2 ∷ plain 3 0 0 84 ∷ []) []
 
 burst-grown : (l m j k n : ℕ) → l ≤ m → j ≤ k → NoSmaller (burst l j n) (burst m k n)
 burst-grown l m j k n x y = record { line-same = refl; priority-same = refl; code-same = refl; greatest-kept = x; jitter-kept = y }
 
+same-link : (v : VirtualLink) → NoSmaller v v
+same-link v = record { line-same = refl; priority-same = refl; code-same = refl; greatest-kept = le-refl (v .greatest); jitter-kept = le-refl (v .jitter) }
+
 bursts-grown : (l m j k : ℕ) → l ≤ m → j ≤ k → Grown (bursts l j .links) (bursts m k .links)
-bursts-grown l m j k x y = edited (burst-grown l m j k 0 x y) (edited (burst-grown l m j k 1 x y) (edited (burst-grown l m j k 2 x y) over))
+bursts-grown l m j k x y = edited (burst-grown l m j k 0 x y) (edited (burst-grown l m j k 1 x y) (edited (burst-grown l m j k 2 x y) (edited (same-link (plain 3 0 0 84)) over)))
 
-bursts-passes : tableRefusal (bursts 1_538 125_000) ≡ 0
-unfolding the-checks
-bursts-passes = refl
+abbrev holdBursts : ℕ → ℕ
+holdBursts zero = 1_621
+holdBursts (suc p) = 4_698
 
-bursts-climb : holdOf (bursts 1_538 125_000) 0 ≡ none
-unfolding the-climb
-bursts-climb = climbed-past (bursts 1_538 125_000) 0 16 tt
-
-bursts-held : Held (bursts 1_538 0) (λ p. 4_614)
+bursts-held : Held (bursts 1_538 0) holdBursts
 unfolding the-climb the-checks
-bursts-held = held (bursts 1_538 0) 6 (λ p. 4_614) refl refl
+bursts-held = held (bursts 1_538 0) 6 holdBursts refl refl
+
+bursts-climb : holdOf (bursts 1_538 125_000) 1 ≡ none
+unfolding the-climb
+bursts-climb = climbed-past (bursts 1_538 125_000) 1 16 tt
+
+bursts-lack : boundsRefusal (bursts 1_538 125_000) ≡ 8
+unfolding the-checks
+bursts-lack = no-hold (bursts 1_538 125_000) refl 1 (omega arith) bursts-climb
 
 -- a second table without bounds: a hold that is not there counts as 0
-pub bounds-needed : Grown (bursts 1_538 0 .links) (bursts 1_538 125_000 .links) × (hold (bursts 1_538 0) 0 ≡ 4_614) × (hold (bursts 1_538 125_000) 0 ≡ 0)
-    × (boundsRefusal (bursts 1_538 125_000) ≡ 8)
+pub bounds-needed : Grown (bursts 1_538 0 .links) (bursts 1_538 125_000 .links) × (boundsRefusal (bursts 1_538 125_000) ≡ 8) × (hold (bursts 1_538 0) 1 ≡ 4_698)
+    × (hold (bursts 1_538 125_000) 1 ≡ 0)
 unfolding hold orZero
-bounds-needed =
-    (bursts-grown 1_538 1_538 0 125_000 (omega arith) (omega arith), bursts-held .hold-is 0 (omega arith), rw bursts-climb, no-hold (bursts 1_538 125_000) bursts-passes 0 (omega arith) bursts-climb)
+bounds-needed = (bursts-grown 1_538 1_538 0 125_000 (omega arith) (omega arith), bursts-lack, bursts-held .hold-is 1 (omega arith), rw bursts-climb)
+
+-- and its answer has no numbers, though the tables agree to priority 0
+pub answers-needed : AgreeTo 0 (bursts 1_538 0) (bursts 1_538 125_000) × (boundsRefusal (bursts 1_538 0) ≡ 0) × (hold (bursts 1_538 0) 0 ≡ 1_621)
+    × (sizing (bursts 1_538 125_000) .holds ≡ replicate 8 0)
+unfolding the-links sizing sizedOr
+answers-needed = (record { links-same = refl; longest-below = refl }, bursts-held .has-bounds, bursts-held .hold-is 0 (omega arith), rw bursts-lack)
 
 -- a second table that does not pass: it has no bounds, under another number
 pub second-passes-needed : Grown (bursts 1_538 125_000 .links) (bursts 1_539 125_000 .links) × (boundsRefusal (bursts 1_538 125_000) ≡ 8) × (boundsRefusal (bursts 1_539 125_000) ≡ 4)
 unfolding the-checks boundsRefusal
-second-passes-needed = (bursts-grown 1_538 1_539 125_000 125_000 (omega arith) (omega arith), bounds-needed .3, refl)
+second-passes-needed = (bursts-grown 1_538 1_539 125_000 125_000 (omega arith) (omega arith), bursts-lack, refl)
 
 -- a first table that does not pass: E with a size of 16,385, then E
-same-link : (v : VirtualLink) → NoSmaller v v
-same-link v = record { line-same = refl; priority-same = refl; code-same = refl; greatest-kept = le-refl (v .greatest); jitter-kept = le-refl (v .jitter) }
-
 pub first-passes-needed : Grown (sizedE 16_385 .links) (tableE .links) × (boundsRefusal (sizedE 16_385) ≡ 6) × (boundsRefusal tableE ≡ 0)
 unfolding the-checks boundsRefusal
 first-passes-needed = (edited (same-link (plain 1 0 0 500)) (edited (same-link (plain 2 1 1 1_000)) over), refl, e-held .has-bounds)

@@ -359,4 +359,4 @@ module _ (t u : Table) (t-passes : tableRefusal t ≡ 0) (u-passes : tableRefusa
     limits-same = (bound-same, hold-same, window-same, holdOf-same)
 
 pub edits-below-unseen : EditsBelowUnseen
-edits-below-unseen = limits-same
+edits-below-unseen t u t-passes u-passes p a q l = limits-same t u t-passes u-passes p a q l
