@@ -7,20 +7,18 @@ use Prim.Native.Nat.{ℕ, zero, suc, _≤_, _<_}
 use native.Mathlib.Nat.{le-refl}
 use native.Mathlib.Omega.{arith}
 use lib.ListN.{length, replicate}
-use Rattle.model.specs.Basics.{provided, allTo}
+use Rattle.model.specs.Basics.{provided}
 use Rattle.model.specs.Link.{VirtualLink, linkAt, membersOf, greatestOver}
 use Rattle.model.specs.Table.{Table, tableRefusal}
 use Rattle.model.specs.Bounds.{upTo, beyond, holdOf, orZero, boundsRefusal, hold, bound, window, sizedOr, sizing}
 use Rattle.model.specs.Promises.{AgreeTo, NoSmaller, Grown, over, edited, added}
-use Rattle.model.specs.Examples.{plain, tableOf, sizedE, tableE, threeLines, oneBusyLine, late, withSecond, movedE, longerE, Correct}
-use Rattle.model.specs.Examples as example
+use Rattle.model.specs.Examples.{plain, tableOf, sizedE, tableE, threeLines, late, withSecond, movedE, longerE, Correct}
 use Rattle.model.proofs.Holds.{climbed-past, no-hold}
 use Rattle.model.proofs.BoundFacts.{unused}
 use Rattle.model.proofs.Peaks.{by-peak}
 use Rattle.model.proofs.FormulaExamples.{the-peak}
 use Rattle.model.proofs.FormulaExamples as formed
 use Rattle.model.proofs.ClimbedExamples.{the-climb, the-checks, Held, held, e-held}
-use Rattle.model.proofs.ClimbedExamples as climbed
 use Rattle.model.proofs.Examples as shown
 use Rattle.model.proofs.EditExamples as changed
 
@@ -31,11 +29,20 @@ the-links = 0
 
 -- ---- EditsBelowUnseen
 
+-- a hold of priority 0, and one of all others
+abbrev firstAnd : ℕ → ℕ → ℕ → ℕ
+firstAnd h k zero = h
+firstAnd h k (suc p) = k
+
 -- another greatest L below: E, and E with link 2 of 1,001, have the same links of priority 0, and another hold of it
-pub below-needed : (tableRefusal tableE ≡ 0) × (tableRefusal longerE ≡ 0) × (membersOf (upTo 0) (tableE .links) ≡ membersOf (upTo 0) (longerE .links))
+longer-held : Held longerE (firstAnd 1_500 1_501)
+unfolding the-climb the-checks
+longer-held = held longerE 6 (firstAnd 1_500 1_501) refl refl
+
+pub below-needed : (boundsRefusal tableE ≡ 0) × (boundsRefusal longerE ≡ 0) × (membersOf (upTo 0) (tableE .links) ≡ membersOf (upTo 0) (longerE .links))
     × (hold tableE 0 ≡ 1_499) × (hold longerE 0 ≡ 1_500) × (AgreeTo 0 tableE longerE → ⊥)
 unfolding the-links Correct
-below-needed = (refl, refl, refl, formed.a .0, changed.longerFirst .0, λ a. let e : _≡_ {A = ℕ} 1_000 1_001 = a .longest-below in omega arith)
+below-needed = (e-held .has-bounds, longer-held .has-bounds, refl, formed.a .0, changed.longerFirst .0, λ a. let e : _≡_ {A = ℕ} 1_000 1_001 = a .longest-below in omega arith)
 
 -- another link of priority 0 to p: E, and E with a third link, of 84 at priority 0
 abbrev thirdE : Table
@@ -45,11 +52,15 @@ third-limits : (hold thirdE 0 ≡ 1_583) × (bound thirdE 0 ≡ 544) × (window 
 unfolding the-peak
 third-limits = by-peak thirdE 0 6 1_583 544 0 refl refl
 
-pub links-needed : (tableRefusal tableE ≡ 0) × (tableRefusal thirdE ≡ 0)
+third-held : Held thirdE (firstAnd 1_583 1_584)
+unfolding the-climb the-checks
+third-held = held thirdE 6 (firstAnd 1_583 1_584) refl refl
+
+pub links-needed : (boundsRefusal tableE ≡ 0) × (boundsRefusal thirdE ≡ 0)
     × (greatestOver (beyond 0) (λ v. v .greatest) (tableE .links) ≡ greatestOver (beyond 0) (λ v. v .greatest) (thirdE .links))
     × (bound tableE 0 ≡ 480) × (bound thirdE 0 ≡ 544) × (AgreeTo 0 tableE thirdE → ⊥)
 unfolding the-links Correct
-links-needed = (refl, refl, refl, formed.a .1, third-limits .1, λ a. let e : _≡_ {A = ℕ} 1 2 = ap length (a .links-same) in omega arith)
+links-needed = (e-held .has-bounds, third-held .has-bounds, refl, formed.a .1, third-limits .1, λ a. let e : _≡_ {A = ℕ} 1 2 = ap length (a .links-same) in omega arith)
 
 -- a table that does not pass: E, and E with one line, on which link 2 does not stand
 abbrev oneLineE : Table
@@ -97,13 +108,9 @@ jitter-needed =
 abbrev shorterE : Table
 shorterE = withSecond (plain 2 1 1 999)
 
-abbrev holdShorter : ℕ → ℕ
-holdShorter zero = 1_498
-holdShorter (suc p) = 1_499
-
-shorter-held : Held shorterE holdShorter
+shorter-held : Held shorterE (firstAnd 1_498 1_499)
 unfolding the-climb the-checks
-shorter-held = held shorterE 6 holdShorter refl refl
+shorter-held = held shorterE 6 (firstAnd 1_498 1_499) refl refl
 
 pub greatest-needed : Smaller tableE shorterE 0
 unfolding Correct
@@ -205,13 +212,9 @@ same-link v = record { line-same = refl; priority-same = refl; code-same = refl;
 bursts-grown : (l m j k : ℕ) → l ≤ m → j ≤ k → Grown (bursts l j .links) (bursts m k .links)
 bursts-grown l m j k x y = edited (burst-grown l m j k 0 x y) (edited (burst-grown l m j k 1 x y) (edited (burst-grown l m j k 2 x y) (edited (same-link (plain 3 0 0 84)) over)))
 
-abbrev holdBursts : ℕ → ℕ
-holdBursts zero = 1_621
-holdBursts (suc p) = 4_698
-
-bursts-held : Held (bursts 1_538 0) holdBursts
+bursts-held : Held (bursts 1_538 0) (firstAnd 1_621 4_698)
 unfolding the-climb the-checks
-bursts-held = held (bursts 1_538 0) 6 holdBursts refl refl
+bursts-held = held (bursts 1_538 0) 6 (firstAnd 1_621 4_698) refl refl
 
 bursts-climb : holdOf (bursts 1_538 125_000) 1 ≡ none
 unfolding the-climb
@@ -232,6 +235,22 @@ pub answers-needed : AgreeTo 0 (bursts 1_538 0) (bursts 1_538 125_000) × (bound
     × (sizing (bursts 1_538 125_000) .holds ≡ replicate 8 0)
 unfolding the-links sizing sizedOr
 answers-needed = (record { links-same = refl; longest-below = refl }, bursts-held .has-bounds, bursts-held .hold-is 0 (omega arith), rw bursts-lack)
+
+-- smaller jitter, and smaller L: the first has no bounds, the second has
+pub record Regains (t u : Table) : Type 0 where
+  pub lacks : boundsRefusal t ≡ 8
+  pub has : boundsRefusal u ≡ 0
+  pub uncovered : Grown (t .links) (u .links) → ⊥
+
+pub jitter-regains : Regains (bursts 1_538 125_000) (bursts 1_538 0)
+jitter-regains = record { lacks = bursts-lack; has = bursts-held .has-bounds; uncovered = λ g. omega (arith, grown-pairs g refl 0 (omega arith) .jitter-kept) }
+
+short-held : Held (bursts 84 125_000) (firstAnd 167 2_856)
+unfolding the-climb the-checks
+short-held = held (bursts 84 125_000) 44 (firstAnd 167 2_856) refl refl
+
+pub greatest-regains : Regains (bursts 1_538 125_000) (bursts 84 125_000)
+greatest-regains = record { lacks = bursts-lack; has = short-held .has-bounds; uncovered = λ g. omega (arith, grown-pairs g refl 0 (omega arith) .greatest-kept) }
 
 -- a second table that does not pass: it has no bounds, under another number
 pub second-passes-needed : Grown (bursts 1_538 125_000 .links) (bursts 1_539 125_000 .links) × (boundsRefusal (bursts 1_538 125_000) ≡ 8) × (boundsRefusal (bursts 1_539 125_000) ≡ 4)

@@ -3,26 +3,26 @@
 use mathlib.Core.Path.{_≡_, refl, sym, _∙_, ap, fun-ext}
 use mathlib.Core.Logic.{_⊎_, inl, inr}
 use mathlib.Core.Bool.{Bool, true, false, cond, _&&_, and-eq-true-iff}
-use mathlib.Core.Option.{Option, none, some}
+use mathlib.Core.Option.{none, some}
 use mathlib.Core.List.{List, [], _∷_, List·Memᴰ, List·Memᴰ·head, List·Memᴰ·tail}
 use Prim.Native.Nat.{ℕ, zero, suc, _+_, _-_, _*_, _≤_, _<_, max}
 use native.Mathlib.Nat.{le-refl, le-trans, mul-le-mul}
 use native.Mathlib.Decide.{decLe}
 use native.Mathlib.Omega.{arith}
 use lib.Dec.{eqb, leb, ltb}
-use borrow.Author.Tests.{eqb-true, leb-true, leb-false, ltb-true, le-leb, lt-leb, lt-ltb, le-ltb, ne-eqb}
+use borrow.Author.Tests.{eqb-true, leb-true, leb-false, le-leb, lt-ltb, le-ltb, ne-eqb}
 use Rattle.model.specs.Basics.{provided, sumTo, greatestTo}
 use Rattle.model.specs.Units.{occupied}
-use Rattle.model.specs.Link.{VirtualLink, bagOf, bag, membersOf, anyOf, sumOver, greatestOver}
+use Rattle.model.specs.Link.{VirtualLink, bag, membersOf, anyOf, sumOver, greatestOver}
 use Rattle.model.specs.Table.{Table, tableRefusal}
 use Rattle.model.specs.Arrival.{frameCurve, onLine, lineCurve, arrivalCurve}
-use Rattle.model.specs.Bounds.{ofPriority, upTo, beyond, ownArrivals, upArrivals, longest, blocking, holdBy, holdOf, backlog, boundWithin, isThere, orZero, windowWithin, boundsRefusal, hold, bound, window}
-use Rattle.model.specs.Promises.{Weight, AgreeTo, EditsBelowUnseen, NoSmaller, Grown, over, edited, added, NoneSmaller, NoneRegained, BoundsKept}
+use Rattle.model.specs.Bounds.{ofPriority, upTo, beyond, ownArrivals, upArrivals, longest, blocking, holdOf, backlog, boundWithin, isThere, orZero, windowWithin, boundsRefusal, hold, bound, window}
+use Rattle.model.specs.Promises.{Weight, AgreeTo, ZeroIfNone, EditsBelowUnseen, NoSmaller, Grown, over, edited, added, NoneSmaller, NoneRegained, BoundsKept}
 use Rattle.model.proofs.TableFacts.{FieldsFit, links-unmet}
 use Rattle.model.proofs.Passing.{members-pass}
 use Rattle.model.proofs.Bags.{bag-positive}
 use Rattle.model.proofs.Search.{greatestTo-ge}
-use Rattle.model.proofs.Curves.{wire-weight, occupied-weight, provided-false, div-mono, frameCurve-mono, sumTo-mono}
+use Rattle.model.proofs.Curves.{wire-weight, occupied-weight, provided-false, div-mono, sumTo-mono}
 use Rattle.model.proofs.Queues.{sumTo-ext}
 use Rattle.model.proofs.BoundFacts.{amount-grows}
 use Rattle.model.proofs.Holds.{hold-grows, HasBounds, has-bounds, all-holds, has-or-lacks, lacks-passes}
@@ -68,6 +68,22 @@ curve-lines weight set n m links w below = sumTo-past _ m n (λ ℓ l. provided-
 
 table-below : (t : Table) → tableRefusal t ≡ 0 → Below (t .lines) (t .links)
 table-below t e v m = members-pass (t .lines) none (t .links) (links-unmet t e) m .line-below
+
+-- ---- no L is 0
+none-of-zero : (set : VirtualLink → Bool) (f : VirtualLink → ℕ) (links : List VirtualLink) → ((v : VirtualLink) → List·Memᴰ v links → 0 < f v)
+    → greatestOver set f links ≡ 0 → anyOf set links ≡ false
+unfolding greatestOver anyOf provided
+none-of-zero set f [] positive e = refl
+none-of-zero set f (v ∷ links) positive e = go (set v) e (none-of-zero set f links (λ u m. positive u (List·Memᴰ·tail m)))
+  where
+    go : (b : Bool) → max (provided b (f v)) (greatestOver set f links) ≡ 0 → (greatestOver set f links ≡ 0 → anyOf set links ≡ false) → cond b true (anyOf set links) ≡ false
+    go true x ih = absurd (omega (arith, positive v (List·Memᴰ·head refl)))
+    go false x ih = ih (omega arith)
+
+pub zero-if-none : ZeroIfNone
+zero-if-none t e p nothing =
+    none-of-zero (beyond p) (λ v. v .greatest) (t .links)
+    (λ v m. let f : FieldsFit (t .lines) v = members-pass (t .lines) none (t .links) (links-unmet t e) m in omega (arith, f .least-from, f .least-greatest)) nothing
 
 -- ---- links that grew: a set has what an edit makes of its members
 

@@ -1,7 +1,7 @@
 -- The theorems of specs/Promises.antt and specs/Examples.antt, each under its name.
 use Rattle.model.specs.Basics.{also}
 use Rattle.model.proofs.Lists.{each-of-both}
-use Rattle.model.specs.Promises.{ReadsWritten, WritesRead, FileLength, BagConstants, LastBag, DemandThree, NeverUnfit, FitnessKept, LengthsKept, CountsAddUp, TurnsAreRuns, DemandThreeOfTurns, CurveGrows, HoldIsSmallest, HoldGrows, BoundIsGreatest, HoldCovers, EditsBelowUnseen, NoneSmaller, NoneRegained, BoundsKept, HoldCarries, NoneRefusedNow, OversoldUnbounded, RowsCarried, OversoldUnfit, NoneAppears, DeparturesInTime, DeparturesSpaced, PassedKeep, DigitsRead, DigitsWritten, AmongByDistance, OneOfTwo, SelectedAlways}
+use Rattle.model.specs.Promises.{ReadsWritten, WritesRead, FileLength, BagConstants, LastBag, DemandThree, NeverUnfit, FitnessKept, LengthsKept, CountsAddUp, TurnsAreRuns, DemandThreeOfTurns, CurveGrows, HoldIsSmallest, HoldGrows, BoundIsGreatest, HoldCovers, ZeroIfNone, EditsBelowUnseen, NoneSmaller, NoneRegained, BoundsKept, HoldCarries, NoneRefusedNow, OversoldUnbounded, RowsCarried, OversoldUnfit, NoneAppears, DeparturesInTime, DeparturesSpaced, PassedKeep, DigitsRead, DigitsWritten, AmongByDistance, OneOfTwo, SelectedAlways}
 use Rattle.model.specs.Examples.{ExamplesCorrect}
 use Rattle.model.proofs.Digits as Digits
 use Rattle.model.proofs.ReadBack as ReadBack
@@ -82,6 +82,9 @@ bound-is-greatest = BoundFacts.bound-greatest
 
 pub hold-covers : HoldCovers
 hold-covers = Covering.hold-covers
+
+pub zero-if-none : ZeroIfNone
+zero-if-none = Sensitivity.zero-if-none
 
 pub edits-below-unseen : EditsBelowUnseen
 edits-below-unseen = Sensitivity.edits-below-unseen

@@ -151,6 +151,10 @@ pub record AgreeTo (p : ℕ) (t u : Table) : Type 0 where
   pub links-same : membersOf (upTo p) (t .links) ≡ membersOf (upTo p) (u .links)
   pub longest-below : greatestOver (beyond p) (λ v. v .greatest) (t .links) ≡ greatestOver (beyond p) (λ v. v .greatest) (u .links)
 
+-- a table that passes has 0 there only if it has no link below
+abbrev pub ZeroIfNone : Type 0
+ZeroIfNone = (t : Table) → tableRefusal t ≡ 0 → (p : ℕ) → greatestOver (beyond p) (λ v. v .greatest) (t .links) ≡ 0 → anyOf (beyond p) (t .links) ≡ false
+
 -- of "two tables that pass their own checks": "bounds and holds of 0 to p agree", and windows. Nor is it asked that both have bounds: where one
 -- has no such hold, neither has the other
 abbrev pub EditsBelowUnseen : Type 0

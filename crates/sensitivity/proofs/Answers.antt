@@ -1,9 +1,8 @@
 -- The numbers of two answers, place by place.
 use mathlib.Core.Path.{_≡_, refl, sym, ap, _∙_}
-use Prim.Native.Nat.{ℕ, zero, suc, _≤_, _<_}
+use Prim.Native.Nat.{ℕ, zero, suc, _<_}
 use native.Mathlib.Omega.{arith}
 use lib.ListN.{getD, replicate}
-use Rattle.model.specs.Table.{Table}
 use Rattle.model.specs.Bounds.{boundsRefusal, sizedOr, sizing}
 use Rattle.model.proofs.Lists.{listTo}
 use Rattle.table.specs.declared.Table.{Table as TableRecord}

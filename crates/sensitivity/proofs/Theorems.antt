@@ -4,14 +4,10 @@ use Prim.Native.Nat.{ℕ, zero, suc, _≤_}
 use native.Mathlib.Nat.{le-refl}
 use native.Mathlib.Omega.{arith}
 use lib.ListN.{getD}
-use Rattle.model.specs.Table.{tableRefusal}
-use Rattle.model.specs.Bounds.{boundsRefusal, hold, bound, window, sizedOr, sizing}
-use Rattle.model.specs.Promises.{Grown}
-use Rattle.model.proofs.Holds.{HasBounds, has-bounds}
+use Rattle.model.specs.Bounds.{hold, bound, window, sizedOr}
+use Rattle.model.proofs.Holds.{has-bounds}
 use Rattle.model.proofs.Theorems as model
-use Rattle.table.specs.declared.Table.{Table as TableRecord}
 use Rattle.table.specs.View.{viewTable}
-use Rattle.bounds.specs.declared.Bounds.{Bounds as BoundsRecord}
 use Rattle.bounds.specs.Answer.{recordBounds}
 use Rattle.sensitivity.specs.Promises.{EditsBelowUnseenInAnswers, NoneSmallerInAnswers, NoneRegainedInAnswers}
 use Rattle.sensitivity.proofs.Answers.{along, none-of-none, refusal-is, answer-is}
