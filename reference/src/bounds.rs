@@ -21,20 +21,18 @@ fn in_memory(link: &Link) -> u64 {
     occupied(u64::from(link.greatest))
 }
 
-/// A set of virtual links: for each line, its members there.
+/// A set of virtual links: for each line below the count, its members there.
 struct Set {
     by_line: Vec<Vec<Link>>,
 }
 
 impl Set {
     fn new(table: &Table, is_member: impl Fn(&Link) -> bool) -> Set {
-        let mut by_line = vec![Vec::new(); table.lines as usize];
-        for link in table.members() {
-            if is_member(link) {
-                by_line[link.line as usize].push(*link);
-            }
-        }
-        Set { by_line }
+        let on = |line: u16| {
+            let members = table.members().iter().filter(|v| u16::from(v.line) == line && is_member(v));
+            members.copied().collect()
+        };
+        Set { by_line: (0..table.lines).map(on).collect() }
     }
 
     /// "A(w) is the sum over lines of the smaller of: the sum of L × N_v(w) over its members on that
@@ -100,27 +98,40 @@ pub struct Bounds {
     pub windows: [u64; 8],
 }
 
-/// "bounds: 3 to 6, then no hold: 8.", with 23 before 6. "If any of the eight has none, the table has no bounds (8)."
-pub fn holds(table: &Table) -> Result<[u64; 8], u32> {
-    let refusal = check(table);
-    if refusal != 0 {
-        return Err(refusal);
-    }
+/// "If any of the eight has none, the table has no bounds".
+fn eight_holds(table: &Table) -> Option<[u64; 8]> {
     let mut found = [0; 8];
-    for p in 0..8 {
-        found[p] = hold(table, p as u8).ok_or(8u32)?;
+    for (p, place) in (0..).zip(&mut found) {
+        *place = hold(table, p)?;
     }
-    Ok(found)
+    Some(found)
 }
 
-pub fn bounds(table: &Table) -> Result<Bounds, u32> {
-    let mut found = Bounds { bounds: [0; 8], holds: holds(table)?, windows: [0; 8] };
+/// What the formulas give, whether the table passes its checks or not.
+pub fn unchecked(table: &Table) -> Option<Bounds> {
+    let mut found = Bounds { bounds: [0; 8], holds: eight_holds(table)?, windows: [0; 8] };
     for p in 0..8 {
         let amounts = amounts(table, p as u8, found.holds[p]);
         found.bounds[p] = bound(&amounts);
         found.windows[p] = window(&amounts);
     }
-    Ok(found)
+    Some(found)
+}
+
+/// "bounds: 3 to 6, then no hold: 8.", with 23 before 6.
+fn checked<T>(table: &Table, formulas: fn(&Table) -> Option<T>) -> Result<T, u32> {
+    match check(table) {
+        0 => formulas(table).ok_or(8),
+        refusal => Err(refusal),
+    }
+}
+
+pub fn holds(table: &Table) -> Result<[u64; 8], u32> {
+    checked(table, eight_holds)
+}
+
+pub fn bounds(table: &Table) -> Result<Bounds, u32> {
+    checked(table, unchecked)
 }
 
 #[cfg(test)]

@@ -6,6 +6,7 @@
 pub mod batch;
 pub mod bounds;
 pub mod cases;
+pub mod edits;
 pub mod examples;
 pub mod memory;
 pub mod next;

@@ -1,12 +1,13 @@
 //! `reference CASES FOLDER` makes the cases, `reference check-CASES FOLDER` compares the committed ones with
 //! what is computed, `reference watch` watches demand 3, counts, and two ports in a row, on the lists of the port's cases,
+//! `reference edits` holds the statements on edits against pairs of tables,
 //! `reference replay TABLE REPORTS` prints what the program replay must print, `reference redundancy SKEW A B` what
 //! redundancy must, `reference next TABLE LINE LINES [SIZES]` what next_table must, and `reference batch TABLE
 //! REPORTS` what the examples must; `reference batch-runs FOLDER` writes files for them.
 
 use reference::cases::{
-    batch, bounds, differing, next, port, recordings, redundancy, replay, store, table, tandem, tandem_watch,
-    Files,
+    batch, bounds, differing, edits, next, port, recordings, redundancy, replay, store, table, tandem,
+    tandem_watch, Files,
 };
 use reference::numeral::value_of;
 use std::env;
@@ -23,6 +24,7 @@ const USAGE: &str = "usage: reference CASES FOLDER
        reference batch TABLE REPORTS
        reference batch-runs FOLDER
        reference watch
+       reference edits
 CASES: table-cases, bounds-cases, port-cases, batch-cases, tandem-cases, replay-case, next-run, redundancy-cases,
        redundancy-run";
 
@@ -66,6 +68,10 @@ fn run(words: &[&str]) -> Result<(), String> {
     match words {
         ["watch"] => {
             print!("{}{}", port::watch()?, tandem_watch::watch()?);
+            Ok(())
+        }
+        ["edits"] => {
+            print!("{}", edits::watch()?);
             Ok(())
         }
         ["replay", table, reports] => {

@@ -3,7 +3,7 @@
 //! Standard input is a run of cases: length (2 bytes, little-endian), and as many bytes of a table file.
 //! Standard output has the sheets, one after the other.
 
-use super::{carried, make, Cases};
+use super::{carried, edits, make, Cases};
 use crate::bounds::bounds;
 use crate::examples::{link, nine_on, table_c, table_e};
 use crate::random::Random;
@@ -66,6 +66,7 @@ fn files() -> Vec<Vec<u8>> {
     long.resize(5_000, 7);
     files.push(long);
     files.extend(about_full(&mut random).iter().map(bytes_of));
+    files.extend(edits::for_the_sheet().iter().map(bytes_of));
     files
 }
 
@@ -83,7 +84,8 @@ fn about_full(random: &mut Random) -> Vec<Table> {
     tables
 }
 
-fn forty_three(last: u16) -> Table {
+/// 42 links of 1,538 and one of another length, code 7, on one line.
+pub fn forty_three(last: u16) -> Table {
     let mut links: Vec<Link> = (0..43).map(|number| Link { code: 7, ..link(number, 0, 0, 1_538) }).collect();
     links[42].greatest = last;
     make::table_of(1, &links, [16_384, 0, 1, 2, 3, 0, 0, 16_384])
