@@ -1,4 +1,4 @@
--- Why each hypothesis on two tables is asked: for each a pair of tables that meets all others, what comes out, and that the pair is not covered.
+-- Why what the statements on two tables ask is asked: pairs of tables that lack one hypothesis and meet the others, and what comes out of them.
 use mathlib.Core.Path.{_≡_, refl, ap}
 use mathlib.Core.Logic.{_⊎_, inl, inr}
 use mathlib.Core.Option.{none}
@@ -236,7 +236,7 @@ pub answers-needed : AgreeTo 0 (bursts 1_538 0) (bursts 1_538 125_000) × (bound
 unfolding the-links sizing sizedOr
 answers-needed = (record { links-same = refl; longest-below = refl }, bursts-held .has-bounds, bursts-held .hold-is 0 (omega arith), rw bursts-lack)
 
--- smaller jitter, and smaller L: the first has no bounds, the second has
+-- smaller jitter, smaller L, another code, links left out: the first has no bounds, the second has
 pub record Regains (t u : Table) : Type 0 where
   pub lacks : boundsRefusal t ≡ 8
   pub has : boundsRefusal u ≡ 0
@@ -251,6 +251,31 @@ short-held = held (bursts 84 125_000) 44 (firstAnd 167 2_856) refl refl
 
 pub greatest-regains : Regains (bursts 1_538 125_000) (bursts 84 125_000)
 greatest-regains = record { lacks = bursts-lack; has = short-held .has-bounds; uncovered = λ g. omega (arith, grown-pairs g refl 0 (omega arith) .greatest-kept) }
+
+-- with a BAG of 128 ms
+abbrev slowBurst : ℕ → VirtualLink
+slowBurst n = record { number = n; line = n; priority = 1; code = 7; least = 84; greatest = 1_538; jitter = 125_000 }
+
+abbrev slowBursts : Table
+slowBursts = tableOf 3 (slowBurst 0 ∷ slowBurst 1 ∷ slowBurst 2 ∷ plain 3 0 0 84 ∷ []) []
+
+slow-held : Held slowBursts (firstAnd 1_621 4_698)
+unfolding the-climb the-checks
+slow-held = held slowBursts 6 (firstAnd 1_621 4_698) refl refl
+
+pub code-regains : Regains (bursts 1_538 125_000) slowBursts
+code-regains = record { lacks = bursts-lack; has = slow-held .has-bounds; uncovered = λ g. omega (arith, grown-pairs g refl 0 (omega arith) .code-same) }
+
+-- one of the three alone
+abbrev oneBurst : Table
+oneBurst = tableOf 3 (burst 1_538 125_000 0 ∷ plain 3 0 0 84 ∷ []) []
+
+one-held : Held oneBurst (firstAnd 1_621 18_624)
+unfolding the-climb the-checks
+one-held = held oneBurst 16 (firstAnd 1_621 18_624) refl refl
+
+pub all-regain : Regains (bursts 1_538 125_000) oneBurst
+all-regain = record { lacks = bursts-lack; has = one-held .has-bounds; uncovered = λ g. omega (arith, grown-length g) }
 
 -- a second table that does not pass: it has no bounds, under another number
 pub second-passes-needed : Grown (bursts 1_538 125_000 .links) (bursts 1_539 125_000 .links) × (boundsRefusal (bursts 1_538 125_000) ≡ 8) × (boundsRefusal (bursts 1_539 125_000) ≡ 4)
