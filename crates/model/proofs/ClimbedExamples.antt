@@ -109,7 +109,7 @@ unfolding Correct header sheetLine fill difference numeral digits text flatMap
 the-sheet = 0
 
 -- ---- table E: hold 1,499, and 1,500 from priority 1 on
-e-passes : tableRefusal tableE ≡ 0
+pub e-passes : tableRefusal tableE ≡ 0
 unfolding the-checks
 e-passes = refl
 

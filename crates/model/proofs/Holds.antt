@@ -163,6 +163,10 @@ table-apart t =
     (apart-append 8 (counts ++ links) lines (apart-append 8 counts links (λ e. omega arith, tt) (links-apart (t .lines) none (t .links))) (λ e. omega arith, tt))
     (λ e. omega arith, tt)
 
+pub table-never : (t : Table) → tableRefusal t ≡ 8 → ⊥
+unfolding tableRefusal
+table-never t e = first-apart 8 (tableChecks t) (omega arith) (table-apart t) e
+
 pub lacks-passes : (t : Table) → boundsRefusal t ≡ 8 → tableRefusal t ≡ 0
 unfolding boundsRefusal tableRefusal firstRefusal
 lacks-passes t e = go (firstMet (tableChecks t)) refl (sym (first-append (tableChecks t) _ (table-numbered t)) ∙ e)

@@ -20,6 +20,7 @@ pub mod Holds
 pub mod BoundFacts
 pub mod Covering
 pub mod Sensitivity
+pub mod JitterMargin
 pub mod Reserving
 pub mod Peaks
 -- ---- the gate: what passes it is within the arrival curve; links that keep BAG and jitter
@@ -72,5 +73,6 @@ pub mod NextExamples
 pub mod LineExamples
 pub mod CountExamples
 pub mod EditExamples
+pub mod MarginExamples
 pub mod Counterexamples
 pub mod Theorems

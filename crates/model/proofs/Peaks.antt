@@ -27,7 +27,7 @@ module _ (g : ℕ → ℕ) (cap : ℕ → ℕ → ℕ) (capped : (s e k : ℕ) �
   below-cap : (s e k : ℕ) → s ≤ k → k ≤ e → ltb (cap s e) limit ≡ true → g k < limit
   below-cap s e k l m x = omega (arith, capped s e k l m, ltb-true (cap s e) limit x)
 
-  all-below : (n s e : ℕ) → allBelow cap limit n s e ≡ true → (k : ℕ) → s ≤ k → k ≤ e → g k < limit
+  pub all-below : (n s e : ℕ) → allBelow cap limit n s e ≡ true → (k : ℕ) → s ≤ k → k ≤ e → g k < limit
   unfolding allBelow
   all-below zero s e x k l m = below-cap s e k l m x
   all-below (suc n) s e x k l m = go (ltb (cap s e) limit) refl (all-below n s ((s + e) / 2)) (all-below n (suc ((s + e) / 2)) e)
@@ -46,7 +46,7 @@ backlogCap t p s e = min (ownArrivals t p e) (upArrivals t p e - (s - blocking t
 later-left : (x y b : ℕ) → x ≤ y → x - b ≤ y - b
 later-left x y b l = omega arith
 
-backlog-capped : (t : Table) (p s e k : ℕ) → s ≤ k → k ≤ e → backlog t p k ≤ backlogCap t p s e
+pub backlog-capped : (t : Table) (p s e k : ℕ) → s ≤ k → k ≤ e → backlog t p k ≤ backlogCap t p s e
 unfolding backlog backlogCap
 backlog-capped t p s e k l m =
     amount-grows (ownArrivals t p k) (ownArrivals t p e) (upArrivals t p k) (upArrivals t p e) (s - blocking t p) (k - blocking t p) (longest t p) (longest t p)

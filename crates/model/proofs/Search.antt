@@ -1,4 +1,4 @@
--- Searches: the first number that passes a test, the greatest of a function, and climbing to a fixed point.
+-- Searches: the first and the last number that pass a test, the greatest of a function, and climbing to a fixed point.
 use mathlib.Core.Path.{_≡_, refl, sym, _∙_}
 use mathlib.Core.Logic.{inl, inr}
 use mathlib.Core.Bool.{Bool, true, false}
@@ -7,7 +7,7 @@ use Prim.Native.Nat.{ℕ, zero, suc, _+_, _-_, _≤_, _<_, max}
 use native.Mathlib.Nat.{le-refl, eq-or-lt-of-le}
 use native.Mathlib.Decide.{decLe}
 use native.Mathlib.Omega.{arith}
-use Rattle.model.specs.Basics.{greatestTo, firstFrom}
+use Rattle.model.specs.Basics.{greatestTo, firstFrom, lastBelow}
 
 -- ---- the first
 pub record IsFirst (p : ℕ → Bool) (n a w : ℕ) : Type 0 where
@@ -75,6 +75,54 @@ pub is-none : (p : ℕ → Bool) (n a : ℕ) → ((k : ℕ) → a ≤ k → k < 
 unfolding firstFrom
 is-none p zero a h = refl
 is-none p (suc n) a h = rw (h a (le-refl a) (omega arith)) (is-none p n (suc a) (λ k l m. h k (omega arith) (omega arith)))
+
+-- ---- the last
+pub record IsLast (p : ℕ → Bool) (n w : ℕ) : Type 0 where
+  pub below : w < n
+  pub holds : p w ≡ true
+  pub after : (k : ℕ) → w < k → k < n → p k ≡ false
+
+pub found-last : (p : ℕ → Bool) (n w : ℕ) → lastBelow p n ≡ some w → IsLast p n w
+unfolding lastBelow
+found-last p zero w e = absurd (let z : _≡_ {A = ℕ} 0 1 = cc in omega arith)
+found-last p (suc n) w e = go (p n) refl (found-last p n w)
+  where
+    go : (b : Bool) → p n ≡ b → (lastBelow p n ≡ some w → IsLast p n w) → IsLast p (suc n) w
+    go true q ih =
+        let z : n ≡ w = let y : some n ≡ some w = rw q at e in cc in
+        record { below = omega arith; holds = rw (← z) q; after = λ k l m. absurd (omega arith) }
+    go false q ih =
+        let f : IsLast p n w = ih (rw q at e) in
+        record {
+          below = omega arith;
+          holds = f .holds;
+          after = λ k l m. elim (eq-or-lt-of-le m) [ inl x ↦ (let y : k ≡ n = omega arith in rw y q) | inr x ↦ f .after k l (omega arith) ];
+        }
+
+pub no-last : (p : ℕ → Bool) (n : ℕ) → lastBelow p n ≡ none → (k : ℕ) → k < n → p k ≡ false
+unfolding lastBelow
+no-last p zero e k l = absurd (omega arith)
+no-last p (suc n) e k l = go (p n) refl (no-last p n)
+  where
+    go : (b : Bool) → p n ≡ b → (lastBelow p n ≡ none → (j : ℕ) → j < n → p j ≡ false) → p k ≡ false
+    go true q ih = absurd (let z : _≡_ {A = ℕ} 0 1 = let y : _≡_ {A = Option ℕ} (some n) none = rw q at e in cc in omega arith)
+    go false q ih = elim (eq-or-lt-of-le l) [ inl x ↦ (let y : k ≡ n = omega arith in rw y q) | inr x ↦ ih (rw q at e) k (omega arith) ]
+
+pub is-last : (p : ℕ → Bool) (n w : ℕ) → IsLast p n w → lastBelow p n ≡ some w
+unfolding lastBelow
+is-last p zero w f = absurd (omega arith)
+is-last p (suc n) w f = elim (eq-or-lt-of-le (f .below)) [ inl x ↦ here (omega arith) | inr x ↦ there (omega arith) (is-last p n w) ]
+  where
+    here : n ≡ w → lastBelow p (suc n) ≡ some w
+    here x = let t : p n ≡ true = rw x (f .holds) in rw (t, x)
+
+    there : w < n → (IsLast p n w → lastBelow p n ≡ some w) → lastBelow p (suc n) ≡ some w
+    there x ih = rw (f .after n x (le-refl (suc n))) (ih (record { below = x; holds = f .holds; after = λ k l m. f .after k l (omega arith) }))
+
+pub is-no-last : (p : ℕ → Bool) (n : ℕ) → ((k : ℕ) → k < n → p k ≡ false) → lastBelow p n ≡ none
+unfolding lastBelow
+is-no-last p zero h = refl
+is-no-last p (suc n) h = rw (h n (le-refl (suc n))) (is-no-last p n (λ k l. h k (omega arith)))
 
 -- ---- the greatest
 pub greatestTo-ge : (g : ℕ → ℕ) (n k : ℕ) → k < n → g k ≤ greatestTo g n

@@ -1,4 +1,4 @@
--- Words that the definitions share: a sum, the greatest, the first that passes a test, the first check that is met.
+-- Words that the definitions share: a sum, the greatest, the first and the last that pass a test, the first check that is met.
 use mathlib.Core.Bool.{Bool, true, false, cond, _&&_}
 use mathlib.Core.Option.{Option, none, some}
 use mathlib.Core.List.{List, [], _∷_}
@@ -33,6 +33,11 @@ allHold (b ∷ bs) = b && allHold bs
 unfoldable pub firstFrom : (ℕ → Bool) → ℕ → ℕ → Option ℕ
 firstFrom test zero a = none
 firstFrom test (suc n) a = let later = firstFrom test n (suc a) in cond (test a) (some a) later
+
+-- the last of 0, .., n − 1 that passes the test
+unfoldable pub lastBelow : (ℕ → Bool) → ℕ → Option ℕ
+lastBelow test zero = none
+lastBelow test (suc n) = let earlier = lastBelow test n in cond (test n) (some n) earlier
 
 -- a place in a list, one further on
 unfoldable pub further : Option ℕ → Option ℕ

@@ -1,5 +1,5 @@
 -- The ten marked examples of the paper, a to j, and ours: k to y, windows, a full buffer (table C), whole answers and sheets, the words of
--- demand 3, networks A and B, batches, the next switch on the way, lines oversold, counts, and edits of a table, as one list.
+-- demand 3, networks A and B, batches, the next switch on the way, lines oversold, counts, edits of a table, and the jitter that is left, as one list.
 use mathlib.Core.Path.{_≡_}
 use mathlib.Core.Bool.{true, false}
 use mathlib.Core.List.{List, [], _∷_, _++_, map, reverse}
@@ -20,6 +20,7 @@ use Rattle.model.specs.Sums.{Sums, sums}
 use Rattle.model.specs.Report.{Report, wait, frame, Answer, Call, arrived, step}
 use Rattle.model.specs.Sheet.{text, sheet}
 use Rattle.model.specs.NextTable.{Next, next}
+use Rattle.model.specs.JitterMargin.{Margin, margin}
 use Rattle.model.specs.Run.{Entry, run, storedBy, policedBy, droppedBy, passedBy, throughBy, heldOf, mostHeld, ticksOf, LinkKeeps}
 use Rattle.model.specs.Batch.{answerBatch, bytesOf, batchFile}
 use Rattle.model.specs.RedundancyExamples.{Recording, repliesTo, recordings}
@@ -83,6 +84,8 @@ pub data Example : Type 0 where
   -- a table, to whose port, fresh but for those counters, calls go in order: the refusal, or 0, and the verdict of each; the counters after
   -- them, and what the call for their sums gives
   gives-counts : Table → Counters → List Call → List (List ℕ) → Counters → Sums → Example
+  -- a table and a link number, with what the call for the jitter that is left gives
+  gives-margin : Table → ℕ → Margin → Example
 
 -- the log of calls in order, the latest first
 abbrev pub logOf : Table → List Call → List Entry
@@ -151,6 +154,7 @@ Correct (unfit t) = fit t (fresh t) ≡ false
 Correct (gives-counts t before calls ruled after expected) =
     let s = withCounters (fresh t) before in
     (rulings t s calls ≡ ruled) × (portAfter t s calls .counters ≡ after) × (sums t (portAfter t s calls) ≡ expected)
+Correct (gives-margin t number expected) = margin t number ≡ expected
 
 -- ---- shorthand: number, line, priority, greatest length; "All codes and jitter 0 unless named"
 abbrev pub plain : ℕ → ℕ → ℕ → ℕ → VirtualLink
@@ -1032,6 +1036,66 @@ windowO2 = gives-bound (late 12_500) 0 960 1_000 480
 abbrev pub edits : List Example
 edits = movedStays ∷ longerFirst ∷ longerSecond ∷ windowO2 ∷ []
 
+-- ---- how much jitter is left
+
+abbrev pub left : ℕ → Margin
+left jitter = record { refused = 0; jitter = jitter }
+
+abbrev pub noneLeft : ℕ → Margin
+noneLeft n = record { refused = n; jitter = 0 }
+
+abbrev pub sizesE : ℕ → ℕ → Table
+sizesE first second = tableOf 2 (plain 1 0 0 500 ∷ plain 2 1 1 1_000 ∷ []) (first ∷ second ∷ [])
+
+-- "E: link 1: 125,000; link 2: 22,501": with a tick more a third frame comes before the second has begun to leave. "with a size of 2,001 and
+-- of 1,999 for priority 1: 22,502 and 22,500"
+abbrev pub leftFirst : Example
+leftFirst = gives-margin tableE 1 (left 125_000)
+
+abbrev pub leftSecond : Example
+leftSecond = gives-margin tableE 2 (left 22_501)
+
+abbrev pub leftMore : Example
+leftMore = gives-margin (sizesE 2_000 2_001) 2 (left 22_502)
+
+abbrev pub leftLess : Example
+leftLess = gives-margin (sizesE 2_000 1_999) 2 (left 22_500)
+
+-- "E with sizes 480 and 980: link 1: 11,001". "E with 479 for priority 0: 25 for link 2", whose own size would do
+abbrev pub leftTight : Example
+leftTight = gives-margin (sizesE 480 980) 1 (left 11_001)
+
+abbrev pub leftNone : Example
+leftNone = gives-margin (sizedE 479) 2 (noneLeft 25)
+
+-- "FULL with all sizes 16,384: 0 for its link of 196"
+abbrev pub leftFull : Example
+leftFull = gives-margin (tableOf 2 (nineOn 0 196) (replicate 8 16_384)) 8 (left 0)
+
+-- "Links 1 to 3 of 1,538, priority 0, jitter 125,000, all sizes 16,384, on one line: no bounds as it stands, link 2: 63,480; on three lines: 25"
+abbrev pub threeLate : Table
+threeLate = tableOf 1 (jittery 1 0 0 1_538 ∷ jittery 2 0 0 1_538 ∷ jittery 3 0 0 1_538 ∷ []) (replicate 8 16_384)
+
+abbrev pub lateLacks : Example
+lateLacks = lacks-bounds threeLate 8
+
+abbrev pub leftLate : Example
+leftLate = gives-margin threeLate 2 (left 63_480)
+
+abbrev pub leftApart : Example
+leftApart = gives-margin (tableOf 3 (jittery 1 0 0 1_538 ∷ jittery 2 1 0 1_538 ∷ jittery 3 2 0 1_538 ∷ []) (replicate 8 16_384)) 2 (noneLeft 25)
+
+-- 24, and 23 before it
+abbrev pub leftUnknown : Example
+leftUnknown = gives-margin tableE 3 (noneLeft 24)
+
+abbrev pub leftOver : Example
+leftOver = gives-margin tableOver 9 (noneLeft 23)
+
+abbrev pub margins : List Example
+margins =
+    leftFirst ∷ leftSecond ∷ leftMore ∷ leftLess ∷ leftTight ∷ leftNone ∷ leftFull ∷ lateLacks ∷ leftLate ∷ leftApart ∷ leftUnknown ∷ leftOver ∷ []
+
 abbrev pub batches : List Example
 batches =
     batchTwo ∷ batchShort ∷ batchRest ∷ batchGoesOn ∷ batchUncut ∷ batchForm ∷ batchWideForm ∷ batchPart ∷ batchNoRoom ∷ batchBoth ∷ batchNone
@@ -1047,7 +1111,7 @@ selections = map selects recordings
 abbrev pub examples : List Example
 examples =
     a ∷ b ∷ c ∷ d ∷ e ∷ f ∷ g ∷ h ∷ i ∷ j ∷ k ∷ l ∷ m ∷ n ∷ o ∷ p ∷ q ∷ r ∷ s ∷ t ∷ u ∷ v ∷ w ∷ x ∷ y
-    ∷ sizingE ∷ windowK ∷ windowP ∷ windowO0 ∷ windowO1 ∷ windowNt0 ∷ windowNt3 ∷ sizingNt ∷ boundC ∷ filledC ∷ sheetE ∷ sheetNt ∷ (words ++ (selections ++ (batches ++ (hops ++ (carriage ++ (adding ++ edits))))))
+    ∷ sizingE ∷ windowK ∷ windowP ∷ windowO0 ∷ windowO1 ∷ windowNt0 ∷ windowNt3 ∷ sizingNt ∷ boundC ∷ filledC ∷ sheetE ∷ sheetNt ∷ (words ++ (selections ++ (batches ++ (hops ++ (carriage ++ (adding ++ (edits ++ margins)))))))
 
 abbrev pub ExamplesCorrect : Type 0
 ExamplesCorrect = Each Correct examples

@@ -15,6 +15,7 @@ pub mod Sums
 pub mod Report
 pub mod Sheet
 pub mod NextTable
+pub mod JitterMargin
 pub mod Run
 pub mod Batch
 pub mod Redundancy

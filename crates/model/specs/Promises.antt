@@ -1,5 +1,6 @@
 -- The theorems, each as a statement. proofs/Theorems.antt proves each under the same name in lower case.
 use mathlib.Core.Path.{_≡_}
+use mathlib.Core.Logic.{_⊎_}
 use mathlib.Core.Bool.{Bool, true, false, cond, _&&_, not}
 use mathlib.Core.Option.{Option, none, some}
 use mathlib.Core.List.{List, [], _∷_, _++_}
@@ -9,12 +10,13 @@ use lib.ListN.{length, getD}
 use Rattle.model.specs.Basics.{eight, allTo, Check, check, firstMet}
 use Rattle.model.specs.Units.{lineCapacity, fullCount}
 use Rattle.model.specs.Link.{VirtualLink, bagOf, standardBags, linkAt, placeOf, membersOf, anyOf, sumOver, greatestOver}
-use Rattle.model.specs.Table.{Table, countChecks, linksChecks, reservation, noneOversold, lineChecks, sizeChecks, tableRefusal}
+use Rattle.model.specs.Table.{Table, sizeOf, countChecks, linksChecks, reservation, noneOversold, lineChecks, sizeChecks, tableRefusal}
 use Rattle.model.specs.Digits.{digitsOf, fromDigits, AllDigits}
 use Rattle.model.specs.TableFile.{tableBytes, readTable, fileLength}
 use Rattle.model.specs.Arrival.{arrivalCurve}
 use Rattle.model.specs.Bounds.{ofPriority, upTo, beyond, upArrivals, blocking, holdBy, holdOf, backlog, isThere, boundsRefusal, hold, bound, window}
 use Rattle.model.specs.NextTable.{nextLinks}
+use Rattle.model.specs.JitterMargin.{withJitter, jitterFits, margin}
 use Rattle.model.specs.Machine.{Frame, Departure, advance, framesHeld}
 use Rattle.model.specs.Counters.{verdicts, countAt, linkSums}
 use Rattle.model.specs.Port.{Port}
@@ -188,6 +190,49 @@ NoneRegained = (t u : Table) → Grown (t .links) (u .links) → tableRefusal u 
 -- and the other way round: if the second has bounds, so has the first
 abbrev pub BoundsKept : Type 0
 BoundsKept = (t u : Table) → Grown (t .links) (u .links) → tableRefusal t ≡ 0 → boundsRefusal u ≡ 0 → boundsRefusal t ≡ 0
+
+-- ---- how much jitter is left
+
+-- with a jitter the table "has bounds and each is at most the table's size for it"
+pub record Fits (t : Table) (number jitter : ℕ) : Type 0 where
+  pub has-bounds : boundsRefusal (withJitter t number jitter) ≡ 0
+  pub within : (p : ℕ) → p < 8 → bound (withJitter t number jitter) p ≤ sizeOf t p
+
+-- what the test of a jitter says
+abbrev pub FitsExactly : Type 0
+FitsExactly = (t : Table) (number jitter : ℕ) → (jitterFits t number jitter ≡ true → Fits t number jitter) × (Fits t number jitter → jitterFits t number jitter ≡ true)
+
+-- with it the table "lacks bounds or breaks some size"
+abbrev pub LacksOrBreaks : Table → ℕ → ℕ → Type 0
+LacksOrBreaks t number jitter =
+    (boundsRefusal (withJitter t number jitter) ≡ 8) ⊎ ((p : ℕ) × (p < 8) × (sizeOf t p < bound (withJitter t number jitter) p))
+
+-- "the greatest jitter from 0 to 125,000": "Every larger jitter in the range lacks bounds or breaks some size"
+pub record GreatestThatFits (t : Table) (number jitter : ℕ) : Type 0 where
+  pub in-range : jitter ≤ 125_000
+  pub fits : Fits t number jitter
+  pub larger : (k : ℕ) → jitter < k → k ≤ 125_000 → LacksOrBreaks t number k
+
+abbrev pub MarginIsGreatest : Type 0
+MarginIsGreatest = (t : Table) (number : ℕ) → margin t number .refused ≡ 0 → GreatestThatFits t number (margin t number .jitter)
+
+-- "25, exactly if no jitter in the range fits", of a table that passes and a number that is there
+abbrev pub RefusedIfNoneFits : Type 0
+RefusedIfNoneFits = (t : Table) (number i : ℕ) → tableRefusal t ≡ 0 → placeOf number (t .links) ≡ some i
+    → (margin t number .refused ≡ 25 → (k : ℕ) → k ≤ 125_000 → LacksOrBreaks t number k)
+    × (((k : ℕ) → k ≤ 125_000 → Fits t number k → ⊥) → margin t number .refused ≡ 25)
+
+-- what halving rests on: where a jitter fits, every smaller one does
+abbrev pub SmallerFits : Type 0
+SmallerFits = (t : Table) (number j k : ℕ) → j ≤ k → k ≤ 125_000 → jitterFits t number k ≡ true → jitterFits t number j ≡ true
+
+-- a table without bounds as it stands is not refused for that: "Never 8"
+abbrev pub NeverUnbounded : Type 0
+NeverUnbounded = (t : Table) (number : ℕ) → margin t number .refused ≡ 8 → ⊥
+
+-- "the link's present jitter plays no part"
+abbrev pub PresentJitterUnseen : Type 0
+PresentJitterUnseen = (t : Table) (number k : ℕ) → tableRefusal t ≡ 0 → k ≤ 125_000 → margin (withJitter t number k) number ≡ margin t number
 
 -- ---- lines oversold
 
