@@ -69,7 +69,7 @@ hold-of : (t : Table) (p h : ℕ) → holdOf t p ≡ some h → h ≡ hold t p
 unfolding hold orZero
 hold-of t p h e = rw e
 
-bound-of : (t : Table) (p h x : ℕ) → holdOf t p ≡ some h → x ≡ boundWithin t p h → x ≡ bound t p
+pub bound-of : (t : Table) (p h x : ℕ) → holdOf t p ≡ some h → x ≡ boundWithin t p h → x ≡ bound t p
 unfolding bound
 bound-of t p h x e q = rw (← hold-of t p h e) q
 

@@ -1,6 +1,7 @@
 // Bounds, holds and windows of a table.
 mod busy;
 mod limits;
+pub mod sizes;
 
 use table::Table;
 ghost use mathlib.Core.Path.{_≡_};

@@ -3,13 +3,13 @@ use mathlib.Core.Path.{_≡_, refl, sym, ap, _∙_}
 use Prim.Native.Nat.{ℕ, zero, suc, _<_}
 use native.Mathlib.Omega.{arith}
 use lib.ListN.{getD, replicate}
-use Rattle.model.specs.Bounds.{boundsRefusal, sizedOr, sizing}
+use Rattle.model.specs.Bounds.{sizedOr, sizing}
 use Rattle.model.proofs.Lists.{listTo}
 use Rattle.table.specs.declared.Table.{Table as TableRecord}
 use Rattle.table.specs.View.{viewTable}
 use Rattle.bounds.specs.declared.Bounds.{Bounds as BoundsRecord}
 use Rattle.bounds.specs.Answer.{recordBounds}
-use Rattle.bounds.proofs.Answered.{sizing-refused}
+use Rattle.bounds.proofs.Answered.{refusal-is}
 
 -- a relation of 0 to 0, and of the numbers below the length, holds at every place; at 8 the lists are eight f and eight g
 pub along : (R : ℕ → ℕ → Type 0) → R 0 0 → (n : ℕ) (f g : ℕ → ℕ) (i : ℕ) → (i < n → R (f i) (g i)) → R (getD (listTo f n) i 0) (getD (listTo g n) i 0)
@@ -21,10 +21,6 @@ pub none-of-none : (n i : ℕ) → _≡_ {A = ℕ} (getD (replicate n 0) i 0) 0
 none-of-none zero i = refl
 none-of-none (suc n) zero = refl
 none-of-none (suc n) (suc i) = none-of-none n i
-
--- the refusal of an answer is that of the bounds
-pub refusal-is : (t : TableRecord) (b : BoundsRecord) → b ≡ recordBounds (sizing (viewTable t)) → b .refused ≡ boundsRefusal (viewTable t)
-refusal-is t b e = ap (λ (r : BoundsRecord). r .refused) e ∙ sizing-refused (viewTable t)
 
 -- an answer by its refusal
 pub answer-is : (t : TableRecord) (b : BoundsRecord) → b ≡ recordBounds (sizing (viewTable t)) → (n : ℕ) → b .refused ≡ n → b ≡ recordBounds (sizedOr n (viewTable t))

@@ -9,8 +9,9 @@ use Rattle.model.proofs.Holds.{has-bounds}
 use Rattle.model.proofs.Theorems as model
 use Rattle.table.specs.View.{viewTable}
 use Rattle.bounds.specs.Answer.{recordBounds}
+use Rattle.bounds.proofs.Answered.{refusal-is}
 use Rattle.sensitivity.specs.Promises.{EditsBelowUnseenInAnswers, NoneSmallerInAnswers, NoneRegainedInAnswers}
-use Rattle.sensitivity.proofs.Answers.{along, none-of-none, refusal-is, answer-is}
+use Rattle.sensitivity.proofs.Answers.{along, none-of-none, answer-is}
 
 pub edits-below-unseen-in-answers : EditsBelowUnseenInAnswers
 unfolding sizedOr

@@ -1,15 +1,15 @@
 -- What the call answers, from what its parts give.
-use mathlib.Core.Path.{_≡_, refl, sym, ap, _∙_}
+use mathlib.Core.Path.{_≡_, refl, _∙_}
 use Prim.Native.Nat.{ℕ, zero, suc}
 use Rattle.model.specs.Basics.{firstRefusal}
 use Rattle.model.specs.Table.{Table, blankTable}
-use Rattle.model.specs.Bounds.{boundsRefusal, sizing}
+use Rattle.model.specs.Bounds.{sizing}
 use Rattle.model.specs.NextTable.{lineRefusal, nextRefusal, nextOr, next}
 use Rattle.table.specs.declared.Table.{Table as TableRecord}
 use Rattle.table.specs.View.{viewTable, recordTable}
 use Rattle.bounds.specs.declared.Bounds.{Bounds as BoundsRecord}
 use Rattle.bounds.specs.Answer.{recordBounds}
-use Rattle.bounds.proofs.Answered.{sizing-refused, Answers, sized}
+use Rattle.bounds.proofs.Answered.{refusal-is, Answers, sized-answer}
 use Rattle.tandem.specs.declared.Next.{Next as NextRecord}
 use Rattle.tandem.specs.Answer.{recordNext}
 use Rattle.tandem.specs.Rows.{Ready, rowsOf}
@@ -28,19 +28,16 @@ module _ (t : TableRecord) (line lines number : ℕ) (e : number ≡ lineRefusal
   line-refused z r x = x ∙ rw (← e) (stops (viewTable t) line lines number _ z)
 
   module _ (z : number ≡ 0) (b : BoundsRecord) (is : b ≡ recordBounds (sizing (viewTable t))) where
-    refusal-is : b .refused ≡ boundsRefusal (viewTable t)
-    refusal-is = ap (λ (x : BoundsRecord). x .refused) is ∙ sizing-refused (viewTable t)
-
     pub bounds-refused : (b .refused ≡ 0 → ⊥) → (r : NextRecord) → r ≡ record { refused = b .refused; table = recordTable blankTable } → r ≡ recordNext (next (viewTable t) line lines)
     unfolding next nextRefusal firstRefusal
-    bounds-refused y r x = x ∙ rw (← e, z, ← refusal-is) (stops (viewTable t) line lines (b .refused) _ y)
+    bounds-refused y r x = x ∙ rw (← e, z, ← refusal-is t b is) (stops (viewTable t) line lines (b .refused) _ y)
 
     module _ (y : b .refused ≡ 0) where
       pub is-ready : Ready t (b .holds)
       is-ready =
-          let k : Answers (viewTable t) (sizing (viewTable t)) = sized (viewTable t) (sym (ap (λ (x : BoundsRecord). x .refused) is) ∙ y) in
+          let k : Answers (viewTable t) (sizing (viewTable t)) = sized-answer t b is y in
           rw is (record { passes = k .passes; are-holds = k .holds })
 
       pub rows-answer : (r : NextRecord) → r ≡ rowsOf t line lines → r ≡ recordNext (next (viewTable t) line lines)
       unfolding next nextRefusal firstRefusal
-      rows-answer r x = x ∙ rw (← e, z, ← refusal-is, y)
+      rows-answer r x = x ∙ rw (← e, z, ← refusal-is t b is, y)
