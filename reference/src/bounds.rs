@@ -91,6 +91,12 @@ fn window(amounts: &[u64]) -> u64 {
     amounts.iter().position(|amount| *amount == greatest).unwrap_or(0) as u64
 }
 
+/// The bound of priority p alone; None if it has no hold.
+pub fn bound_of(table: &Table, p: u8) -> Option<u64> {
+    let hold = hold(table, p)?;
+    Some(bound(&amounts(table, p, hold)))
+}
+
 #[derive(Clone, Copy, Debug, PartialEq, Eq)]
 pub struct Bounds {
     pub bounds: [u64; 8],

@@ -8,6 +8,7 @@ pub mod bounds;
 pub mod cases;
 pub mod edits;
 pub mod examples;
+pub mod jitter;
 pub mod memory;
 pub mod next;
 pub mod numeral;
