@@ -1,8 +1,11 @@
-# What ./sheet, ./replay, ./redundancy and ./next have in common; each sets usage and sources this. A wrapper ends with 0; with 2 for
-# wrong use, or where something can't be read, written or built; with 3 where the program refuses all that it was given, or ends at a
-# refusal.
+# What ./sheet, ./replay, ./redundancy, ./next and ./jitter have in common; each sets usage and sources this. A wrapper ends with 0;
+# with 2 for wrong use, or where something can't be read, written or built; with 3 where the program refuses all that it was given,
+# or ends at a refusal. While a program runs, the lines in which it tells how far it is go on to standard error, or are dropped
+# where they can't be written.
 # shellcheck disable=SC2154
 set -u
+# With no standard error its number would go to the next file that is opened.
+{ : 3>&2; } || exec 2>/dev/null
 home=$(dirname -- "${BASH_SOURCE[0]}")
 
 fail() {
@@ -54,8 +57,20 @@ build() {
     touch -d "@$began" -- "$program"
 }
 
-# Runs the program of that name. Its results go straight to standard output; it has no exit status, so what it says on
-# standard error tells how it went: nothing; `refused`; or a message. 141 is the end of a pipe that nobody reads.
+# Of the lines of standard input those that begin with `so far ` go to standard error, each at once, the others to standard output.
+# A write to standard error that fails ends its subshell alone.
+part_progress() {
+    local line
+    while IFS= read -r line || [ -n "$line" ]; do
+        case $line in
+        "so far "*) (printf '%s\n' "$line" >&2) ;;
+        *) printf '%s\n' "$line" ;;
+        esac
+    done
+}
+
+# Runs the program of that name. Its results go straight to standard output; it has no exit status, so what it says on standard
+# error beside how far it is tells how it went: nothing; `refused`; or a message. 141 is the end of a pipe that nobody reads.
 run() { # NAME WORDS..
     local name=$1 said status=0 lock out
     program=$home/target/bin/$name
@@ -68,7 +83,9 @@ run() { # NAME WORDS..
         exec {lock}<&-
     fi
     exec {out}>&1
-    said=$("$program" "$@" 2>&1 >&"$out") || status=$?
+    # What is said ends when both have ended, the program and part_progress; the status is the program's.
+    # shellcheck disable=SC2261 # one of the two is standard output
+    said=$("$program" "$@" 2> >(part_progress) >&"$out") || status=$?
     case $status:$said in
     0:) exit 0 ;;
     0:refused) exit 3 ;;
