@@ -9,7 +9,7 @@ extern "C" {
     fn bench_sheet(file: *const u8, length: usize) -> u64;
 }
 
-fn product(file: &[u8]) -> u64 {
+pub fn product(file: &[u8]) -> u64 {
     unsafe { bench_sizing(file.as_ptr(), file.len()) }
 }
 
@@ -155,7 +155,7 @@ fn steady(t: &Table, high: u8, w: u64) -> u64 {
 }
 
 /// A table of n links: number i has the line, priority, code, greatest length and jitter that `of` gives.
-fn table(lines: u16, n: usize, of: impl Fn(usize) -> (usize, usize, usize, usize, usize)) -> Table {
+pub fn table(lines: u16, n: usize, of: impl Fn(usize) -> (usize, usize, usize, usize, usize)) -> Table {
     let mut links = [Link::default(); 256];
     for (i, v) in links.iter_mut().enumerate().take(n) {
         let (line, priority, code, greatest, jitter) = of(i);
@@ -172,7 +172,7 @@ fn table(lines: u16, n: usize, of: impl Fn(usize) -> (usize, usize, usize, usize
     Table { lines, count: n as u16, links, sizes: [16_384; 8] }
 }
 
-fn holds(t: &Table) -> Vec<u64> {
+pub fn holds(t: &Table) -> Vec<u64> {
     (0..8).filter_map(|p| climb(t, p, longest(t, p + 1, 7).saturating_sub(1))).collect()
 }
 
@@ -237,7 +237,7 @@ fn byte_sum(text: &str) -> u64 {
 }
 
 /// A large table whose eight holds all lie above 50,000: 147 links of priority 0, the others small, codes and jitters mixed.
-fn large() -> Table {
+pub fn large() -> Table {
     let mut x = 164u64.wrapping_mul(0x9E37_79B9_7F4A_7C15) | 1;
     let mut next = |n: usize| {
         x ^= x << 13;
@@ -257,10 +257,14 @@ fn large() -> Table {
     table(24, 256, |i| rows[i])
 }
 
+/// As many links on one line.
+pub fn busy() -> Table {
+    table(1, 256, |i| (0, i % 8, 3 + i % 5, 90 + i % 120, 400 * i))
+}
+
 pub fn run() {
     case("256 links on 24 lines", &large(), 1, true);
     let usual = table(12, 100, |i| (i % 12, i % 8, i % 8, 84 + 3 * (i % 40), 500 * (i % 9)));
     case("100 links on 12 lines", &usual, 10, true);
-    let busy = table(1, 256, |i| (0, i % 8, 3 + i % 5, 90 + i % 120, 400 * i));
-    case("256 links on one line", &busy, 1, true);
+    case("256 links on one line", &busy(), 1, true);
 }

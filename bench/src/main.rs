@@ -2,6 +2,7 @@
 
 mod batch;
 mod bounds;
+mod jitter;
 mod measure;
 mod peer;
 mod port;
@@ -15,6 +16,7 @@ fn main() {
     println!("{:<44} {:>12} {:>12} {:>7}", "what", "product", "peer", "ratio");
     table::run();
     bounds::run();
+    jitter::run();
     port::run();
     batch::run();
     redundancy::run();

@@ -6,6 +6,7 @@ use native.Mathlib.Omega.{arith}
 use lib.ListN.{length, getD, take, replicate}
 use lib.Seq.{take-all}
 use Rattle.model.specs.Bounds.{sizing}
+use Rattle.model.specs.JitterMargin.{margin}
 use Rattle.model.specs.TableFile.{readTable}
 use Rattle.table_file.specs.declared.Reading.{Reading as ReadingRecord}
 use Rattle.table.specs.View.{viewTable}
@@ -13,6 +14,8 @@ use Rattle.table_file.specs.Answers.{recordReading}
 use Rattle.table_file.proofs.Back.{read-shown}
 use Rattle.bounds.specs.declared.Bounds.{Bounds as BoundsRecord}
 use Rattle.bounds.specs.Answer.{recordBounds}
+use Rattle.jitter_margin.specs.declared.Margin.{Margin as MarginRecord}
+use Rattle.jitter_margin.specs.Answer.{recordMargin}
 use Rattle.sheet_numerals.specs.declared.Text.{Text}
 use Rattle.sheet_numerals.specs.Fixed.{textRoom, recordText}
 use Rattle.bench_calls.specs.Sums.{sum, sizingSum}
@@ -37,6 +40,13 @@ unfolding sizingSum
 sizing-is file r s b h w e f p q o =
     let same : viewTable (r .table) ≡ readTable file .table = ap (λ (x : ReadingRecord). viewTable (x .table)) e ∙ read-shown file in
     rw (p, q, o, f, same)
+
+-- ---- the jitter that is left in the table of a file
+pub margin-is : (file : List ℕ) (number : ℕ) (r : ReadingRecord) (m : MarginRecord) (j : ℕ) → r ≡ recordReading (readTable file) → m ≡ recordMargin (margin (viewTable (r .table)) number)
+    → j ≡ m .jitter → j ≡ margin (readTable file .table) number .jitter
+margin-is file number r m j e f q =
+    let same : viewTable (r .table) ≡ readTable file .table = ap (λ (x : ReadingRecord). viewTable (x .table)) e ∙ read-shown file in
+    q ∙ rw (f, same)
 
 -- ---- the bytes of a text: those behind it are 0
 sum-append : (l m : List ℕ) → sum (l ++ m) ≡ sum l + sum m

@@ -5,6 +5,7 @@ use sheet_numerals::ROOM;
 ghost use mathlib.Core.Path.{_≡_};
 ghost use Prim.Native.Nat.{_≤_, _*_};
 ghost use Rattle.model.specs.TableFile.{readTable};
+ghost use Rattle.model.specs.JitterMargin.{margin};
 ghost use Rattle.model.specs.Sheet.{sheet};
 ghost use Rattle.bench_calls.specs.Sums.{sum, sizingSum};
 
@@ -54,4 +55,15 @@ pub extern "C" fn bench_sheet(file: &[u8]) -> u64
     let text = sheet_text::text_of(file);
     let bytes = text.bytes;
     byte_sum(bytes)
+}
+
+// The jitter that is left to the link of that number in the table of a file; 0 with a refusal.
+#[no_mangle]
+pub extern "C" fn bench_jitter(file: &[u8], number: u64) -> u64
+    ensures { λ r. ⌜ r ≡ margin (readTable (now (file .entry)) .table) number .jitter ⌝ }
+{
+    let reading = table_file::read(file);
+    let t = reading.table;
+    let left = jitter_margin::jitter_left(t, number);
+    u32_as_u64(left.jitter)
 }
