@@ -1,4 +1,6 @@
 // For bench/: what a batch answers, through the single calls on a port by value.
+#![tactic(auto)]
+
 ghost use Rattle.std.specs.Prelude.{◌≡◌, ◌+◌, ◌≤◌, length};
 ghost use Rattle.model.specs.TableFile.{read_table};
 

@@ -1,4 +1,6 @@
 // Internal to the product: a batch of reports to a port in lent flat lists, each number in 8 little-endian bytes.
+#![tactic(auto)]
+
 ghost use Rattle.std.specs.Prelude.{◌≡◌, ◌*◌, ◌/◌, ◌≤◌, min, length};
 ghost use Rattle.model.specs.Batch.{reports_in, numbers_in};
 ghost use Rattle.flat_table.specs.View.{view_words};

@@ -1,5 +1,7 @@
 // Runs the cases of standard input through batches, by the C call in bytes and by two calls on a port in numbers, and prints what
 // they leave. What it must print was computed by reference/, whose src/cases/batch.rs has the form of a case.
+#![tactic(auto)]
+
 mod lists;
 mod rows;
 
@@ -120,7 +122,7 @@ fn say_sums(answers: u64, departures: u64) {
 }
 
 // What two calls answered, and the port that the second handed back.
-#[derive(Drop)]
+#[derive(Clone, Copy)]
 struct Calls {
     first: u32,
     first_departures: u64,

@@ -1,4 +1,6 @@
 // Calls that bench/ times: on byte slices and numbers.
+#![tactic(auto)]
+
 ghost use Rattle.std.specs.Prelude.{◌≡◌, ◌≤◌, ◌*◌, length};
 ghost use Rattle.model.specs.TableFile.{read_table};
 ghost use Rattle.model.specs.JitterMargin.{margin};

@@ -1,4 +1,6 @@
 // Bounds, holds and windows of a table.
+#![tactic(auto)]
+
 mod busy;
 mod limits;
 pub mod sizes;
@@ -11,7 +13,7 @@ ghost use Rattle.bounds.specs.Answer.{record_bounds};
 use table::Table;
 
 // The number of a refusal and no bounds, all of which are 0; or 0 and eight of each, priority 0 first.
-#[derive(Drop)]
+#[derive(Clone, Copy)]
 pub struct Bounds {
     pub refused: u32,
     pub bounds: [u32; 8],

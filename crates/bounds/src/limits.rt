@@ -8,7 +8,7 @@ use crate::busy;
 use table::Table;
 
 // A hold of 0 is none.
-#[derive(Drop)]
+#[derive(Clone, Copy)]
 pub struct Limits {
     pub hold: u32,
     pub bound: u32,

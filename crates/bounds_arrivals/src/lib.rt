@@ -1,4 +1,6 @@
 // Internal to the product: arrival curves, the most that links of some priorities put on the lines in a window of w ticks.
+#![tactic(auto)]
+
 ghost use Rattle.std.specs.Prelude.{◌≡◌, ℕ, ◌*◌, ◌≤◌, ◌<◌, get_or};
 ghost use Rattle.model.specs.Link.{greatest_over};
 ghost use Rattle.model.specs.Table.{table_refusal};
@@ -11,7 +13,7 @@ use table::{Table, VirtualLink};
 use units::LEAST_BAG;
 
 // For each line: the bytes of its members' frames, and the longest frame of a member.
-#[derive(Drop)]
+#[derive(Clone, Copy)]
 pub struct Loads {
     pub sums: [u64; 24],
     pub tops: [u64; 24],

@@ -1,5 +1,7 @@
 // Internal to the product: the greatest backlog of a priority over the windows below its hold, stretch by stretch. In a
 // stretch of windows no link's number of frames changes: in it the backlog bends down.
+#![tactic(auto)]
+
 ghost use Rattle.std.specs.Prelude.{◌≡◌, ◌+◌, ◌≤◌, ◌<◌};
 ghost use Rattle.model.specs.Table.{table_refusal};
 ghost use Rattle.model.specs.Bounds.{backlog};
@@ -13,7 +15,7 @@ use table::{Table, VirtualLink};
 use units::UNKEPT;
 
 // The windows from start to last, with the loads that all of them have in common.
-#[derive(Drop)]
+#[derive(Clone, Copy)]
 pub struct Stretch {
     pub own: Loads,
     pub up: Loads,
@@ -25,7 +27,7 @@ pub struct Stretch {
 }
 
 // The greatest backlog so far, and the first window at which it occurs.
-#[derive(Drop)]
+#[derive(Clone, Copy)]
 pub struct Peak {
     pub backlog: u64,
     pub window: u64,

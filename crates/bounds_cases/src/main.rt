@@ -1,5 +1,7 @@
 // Prints the sheet of each table file of standard input. What it must print was computed by reference/, whose
 // src/cases/bounds.rs has the form of a case: length in two bytes, as many bytes.
+#![tactic(auto)]
+
 use libc::{STDIN_FILENO, STDOUT_FILENO};
 use little_endian::read2;
 

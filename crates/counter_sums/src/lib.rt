@@ -1,4 +1,6 @@
 // Internal to the product: the counts of a port added up: each link's sum, and the grand total where there is one.
+#![tactic(auto)]
+
 ghost use Rattle.std.specs.Prelude.{◌≡◌, true, ℕ, ◌+◌, ◌*◌, ◌≤◌, ◌<◌, length};
 ghost use Rattle.model.specs.Basics.{provided, sum_to};
 ghost use Rattle.model.specs.Units.{full_count};
@@ -12,7 +14,7 @@ use units::FULL_COUNT;
 
 // 0, the sum of each link's four counts, 0 behind the table's count; whether no count is full, and the grand total, unknown
 // numbers included, if so. Or 10 for a record that is not fit, and all else 0.
-#[derive(Drop)]
+#[derive(Clone, Copy)]
 pub struct Sums {
     pub refused: u32,
     pub sums: [u64; 256],
@@ -21,7 +23,7 @@ pub struct Sums {
 }
 
 // The sums, and the total, full counts or none.
-#[derive(Drop)]
+#[derive(Clone, Copy)]
 struct Added {
     sums: [u64; 256],
     total: u64,

@@ -1,5 +1,7 @@
 // Internal to the product: counts of a port's frames in a list of numbers, raised and tested. The four counts of a link, by verdict, stand
 // side by side: every 4 numbers in a port record, with the unknown one beside them; every 5 in a lent flat list, with the unknown one at 1280.
+#![tactic(auto)]
+
 ghost use Rattle.std.specs.Prelude.{◌≡◌, ◌*◌, ◌≤◌, ◌<◌, leb, length};
 ghost use Rattle.model.specs.Units.{full_count};
 ghost use Rattle.model.specs.Counters.{risen as risenCount, every_count};

@@ -1,4 +1,6 @@
 // Internal to the product: a batch of reports, five numbers each, to a port in lent flat lists.
+#![tactic(auto)]
+
 ghost use Rattle.std.specs.Prelude.{◌≡◌, ◌+◌, ◌*◌, ◌/◌, ◌≤◌, length, get_or};
 ghost use Rattle.model.specs.Batch.{reports_in};
 ghost use Rattle.model.proofs.Reports.{report_at};
@@ -13,7 +15,7 @@ use numbers::u32_as_u64;
 use port_refusals::Report;
 
 // The state after the last report, how many departures were written, and whether any report was accepted.
-#[derive(Drop)]
+#[derive(Clone, Copy)]
 pub struct Ran {
     pub state: State,
     pub departures: u64,

@@ -1,4 +1,6 @@
 // Internal to the product: the police check of an account that stands in lent flat lists, credits and the ticks of their last change.
+#![tactic(auto)]
+
 ghost use Rattle.std.specs.Prelude.{◌<◌, length};
 ghost use Rattle.flat_policing.specs.Accounts.{Charges};
 

@@ -1,4 +1,6 @@
 // Internal to the product: a report to a port that stands in lent flat lists of numbers, so that nothing is copied.
+#![tactic(auto)]
+
 mod judging;
 mod refusals;
 
@@ -12,7 +14,7 @@ use port_refusals::Report;
 use port_scheduler::Sender;
 
 // The clock, who sends, and how many frames the queues hold.
-#[derive(Drop)]
+#[derive(Clone, Copy)]
 pub struct State {
     pub clock: u64,
     pub sender: Sender,
@@ -20,7 +22,7 @@ pub struct State {
 }
 
 // 0 or the number of the refusal, 11 to 16; verdict and frames freed, both 0 with a refusal; and the state afterwards.
-#[derive(Drop)]
+#[derive(Clone, Copy)]
 pub struct Reported {
     pub refused: u32,
     pub verdict: u32,

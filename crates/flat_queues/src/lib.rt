@@ -1,5 +1,7 @@
 // Internal to the product: queues of frames as rings in lent flat lists: 256 slots a ring, three numbers a slot.
 // heads: the place of the oldest frame of each ring, modulo 256. counts: how many frames each ring holds.
+#![tactic(auto)]
+
 ghost use Rattle.std.specs.Prelude.{◌≡◌, List, ℕ, ◌+◌, ◌<◌, ◌≤◌, length, get_or, set};
 ghost use Rattle.model.specs.Machine.{without_head, queued_last};
 ghost use Rattle.model.specs.Report.{arrived};

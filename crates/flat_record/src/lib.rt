@@ -1,4 +1,6 @@
 // Internal to the product: the queues, accounts and counts of a port record as flat lists of numbers, and back.
+#![tactic(auto)]
+
 ghost use Rattle.std.specs.Prelude.{◌≡◌, ◌+◌, ◌≤◌, length};
 ghost use Rattle.flat_queues.specs.View.{frame_at};
 ghost use Rattle.port_scheduler.specs.View.{view_frame};

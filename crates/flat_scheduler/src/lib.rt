@@ -1,4 +1,6 @@
 // Internal to the product: the advance frame by frame, on queues that are rings in lent flat lists.
+#![tactic(auto)]
+
 ghost use Rattle.std.specs.Prelude.{◌≡◌, List, ℕ, ◌≤◌, length};
 ghost use Rattle.model.specs.Machine.{at, advance as advanceOf, highest_waiting, start_if_any};
 ghost use Rattle.port_scheduler.specs.View.{view_sender};
@@ -11,7 +13,7 @@ use port_scheduler::Sender;
 use units::occupancy;
 
 // What an advance leaves to send, and how many frames it freed.
-#[derive(Drop)]
+#[derive(Clone, Copy)]
 pub struct Moved {
     pub sender: Sender,
     pub frames: u64,

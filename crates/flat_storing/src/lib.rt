@@ -1,4 +1,6 @@
 // Internal to the product: a frame that passed the police check, stored in a ring in lent flat lists or dropped.
+#![tactic(auto)]
+
 ghost use Rattle.model.specs.Table.{Table};
 ghost use Rattle.model.specs.Port.{Port};
 ghost use Rattle.model.specs.Report.{arrived};

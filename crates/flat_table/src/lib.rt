@@ -1,6 +1,8 @@
 // Internal to the product: a table as a flat list of numbers, its words, laid down from the table record; the place of a number in
 // it, and the filter. Eight words a link from 8 × i on: line, priority, code, jitter, least, greatest, two spare. Sizes from 2048 on,
 // line count 2056, link count 2057. The numbers of the links are the record's own.
+#![tactic(auto)]
+
 ghost use Rattle.std.specs.Prelude.{◌≡◌, ℕ, ◌+◌, ◌*◌, ◌≤◌, ◌<◌};
 ghost use lib.ListN.{length, get_or};
 ghost use Rattle.model.specs.Link.{bag_of};

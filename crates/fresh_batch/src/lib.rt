@@ -1,4 +1,6 @@
 // Internal to the product: a batch in bytes from the fresh port of a table.
+#![tactic(auto)]
+
 ghost use Rattle.std.specs.Prelude.{◌≡◌, ◌*◌, ◌/◌, ◌≤◌, length};
 ghost use Rattle.model.specs.Table.{table_refusal};
 ghost use Rattle.model.specs.Port.{fresh};

@@ -1,6 +1,8 @@
 // handful: reads a table file on standard input, and prints the handful of links that breaks the table and what they reserve on
 // each line; or prints `refused N`. A program has no exit status, so what else there is to know goes to standard error: a message,
 // or `refused` alone.
+#![tactic(auto)]
+
 mod lines;
 
 use output::messages::{refuse, tell};

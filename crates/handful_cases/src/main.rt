@@ -1,5 +1,7 @@
 // Runs the cases of standard input, each a table record, through the call for the handful that breaks a table, and prints the table that it
 // hands out and what is sold of each line. What it must print was computed by reference/, whose src/cases/handful.rs has the form of a case.
+#![tactic(auto)]
+
 use case_records::given::least;
 use case_records::rows::{number, say};
 use case_records::sums::of_table;

@@ -1,9 +1,11 @@
 // Internal to the product: what a program is given.
+#![tactic(auto)]
+
 ghost use Rattle.std.specs.Prelude.{◌≡◌, true, length};
 ghost use Rattle.io.specs.Counts.{IsPrefixLen};
 ghost use Rattle.input.specs.Numerals.{is_digit, with_digit, capped, read_numeral};
 
-#[derive(Drop)]
+#[derive(Clone, Copy)]
 pub struct Numeral {
     pub is_numeral: bool,
     pub value: u64,
@@ -49,7 +51,7 @@ fn with_digit(value: u64, digit: u8) -> u64
 }
 
 // The bytes at the start of a buffer that were read, and whether that is all: the buffer is full, or the input has ended.
-#[derive(Drop)]
+#[derive(Clone, Copy)]
 pub struct Given {
     pub length: usize,
     pub is_read: bool,

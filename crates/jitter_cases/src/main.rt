@@ -1,5 +1,7 @@
 // Runs the cases of standard input, each a link number and a table record, through the call for the jitter that is left, and prints its
 // two numbers. What it must print was computed by reference/, whose src/cases/jitter.rs has the form of a case.
+#![tactic(auto)]
+
 use case_records::rows::{number, print, say};
 use case_records::tables::take;
 use libc::STDIN_FILENO;

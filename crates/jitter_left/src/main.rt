@@ -1,6 +1,8 @@
 // jitter_left [NUMBER]: reads a table file on standard input, and prints how much jitter is left to the link of that number, or a
 // line for each link; or prints `refused N`. A program has no exit status, so what else there is to know goes to standard error: a
 // message, or `refused` alone; and how far a long run is.
+#![tactic(auto)]
+
 mod lines;
 
 use input::Numeral;

@@ -1,4 +1,6 @@
 // How much jitter is left to a virtual link of a table.
+#![tactic(auto)]
+
 mod fitting;
 
 ghost use Rattle.std.specs.Prelude.{◌≡◌, ◌<◌, get_or};
@@ -11,7 +13,7 @@ use table::Table;
 use table_lookup::Place;
 
 // The number of a refusal, with 0 for a jitter; or 0 and the greatest jitter that fits.
-#[derive(Drop)]
+#[derive(Clone, Copy)]
 pub struct Margin {
     pub refused: u32,
     pub jitter: u32,

@@ -1,5 +1,7 @@
 // Internal to the product: little-endian numbers in a run of bytes. What stands behind its end counts as 0; a place
 // that is behind it is answered first, so that no sum wraps.
+#![tactic(auto)]
+
 pub mod within;
 
 ghost use Rattle.std.specs.Prelude.{◌≡◌, ◌+◌, ◌≤◌, length};

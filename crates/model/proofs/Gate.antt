@@ -30,6 +30,7 @@ mem_at (v ∷ links) (suc i) l = Memᴰ.tail (mem_at links i (omega arith))
 
 -- what is true at each place is true of each member
 all_members : (P : VirtualLink → Type 0) (links : List VirtualLink) → ((i : ℕ) → i < length links → P (link_at links i)) → (v : VirtualLink) → Memᴰ v links → P v
+all_members P [] k v x'' = elim x'' [ ]
 all_members P (u ∷ links) k v (Memᴰ.head e) = rw e (k 0 (omega arith))
 all_members P (u ∷ links) k v (Memᴰ.tail m) = all_members P links (λ i l. k (suc i) (omega arith)) v m
 

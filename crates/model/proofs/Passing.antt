@@ -27,6 +27,7 @@ module _ (lines : ℕ) where
 
   pub members_pass : (previous : Option ℕ) (links : List VirtualLink) → NoneMet (links_checks lines previous links) → {v : VirtualLink} → Memᴰ v links → FieldsFit lines v
   unfolding links_checks
+  members_pass previous [] pass {v = v} x'' = elim x'' [ ]
   members_pass previous (u ∷ links) pass (Memᴰ.head e) = rw e (fields_fit lines u (not-false (fields_in_range lines u) pass.0))
   members_pass previous (u ∷ links) pass (Memᴰ.tail m) = members_pass (some u.number) links (rest_pass previous u links pass) m
 

@@ -127,6 +127,7 @@ greatest_grown set f k n (edited {v} {u} s g) = omega (arith, provided_kept (set
 greatest_grown set f k n (added g) = omega (arith, greatest_grown set f k n g)
 
 below_grown : (lines : ℕ) {links grown : List VirtualLink} → Grown links grown → Below lines grown → Below lines links
+below_grown lines over b x m = elim m [ ]
 below_grown lines (edited {v} {u} s g) b x (Memᴰ.head e) = rw e (rw s.line_same (b u (Memᴰ.head refl)))
 below_grown lines (edited s g) b x (Memᴰ.tail m) = below_grown lines g (λ y n. b y (Memᴰ.tail n)) x m
 below_grown lines (added g) b x m = below_grown lines g (λ y n. b y (Memᴰ.tail n)) x m

@@ -1,4 +1,6 @@
 // The table file for the next switch on the way, from that of this one.
+#![tactic(auto)]
+
 ghost use Rattle.std.specs.Prelude.{◌≡◌, map, min};
 ghost use Rattle.model.specs.NextTable.{next_file};
 ghost use Rattle.next_file.specs.Answer.{size_cap, Wrote};

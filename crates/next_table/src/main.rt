@@ -1,6 +1,8 @@
 // next_table LINE LINES [SIZES]: reads the table file of a port on standard input, and writes that of the next switch, whose line LINE of
 // LINES this port feeds; or prints `refused N`. SIZES are eight, or none where all are 0. A program has no exit status, so what else
 // there is to know goes to standard error: a message, or `refused` alone.
+#![tactic(auto)]
+
 ghost use Rattle.std.specs.Prelude.{◌≤◌, length};
 
 use input::Numeral;

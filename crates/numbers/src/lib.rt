@@ -1,4 +1,6 @@
 // Internal to the product: casts that keep a number, the smaller and the larger of two, a difference that stops at 0.
+#![tactic(auto)]
+
 ghost use Rattle.std.specs.Prelude.{◌≡◌, ◌-◌, ◌≤◌, min, max};
 
 pub fn u8_as_u16(x: u8) -> u16

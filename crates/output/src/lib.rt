@@ -1,4 +1,6 @@
 // Internal to the product: what a program prints is collected in a room that the caller lends, and written when the room is full.
+#![tactic(auto)]
+
 pub mod messages;
 
 ghost use Rattle.std.specs.Prelude.{◌≡◌, true, false};
@@ -6,7 +8,7 @@ ghost use Rattle.std.specs.Prelude.{◌≡◌, true, false};
 pub const ROOM: usize = 8192;
 
 // The file that is written to, how many bytes are collected, and whether a write has failed.
-#[derive(Drop)]
+#[derive(Clone, Copy)]
 pub struct Out {
     pub fd: i32,
     pub length: usize,

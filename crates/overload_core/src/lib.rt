@@ -1,4 +1,6 @@
 // The handful that breaks a table: links of it that together have no bounds, and have them without any one of them.
+#![tactic(auto)]
+
 mod demand;
 mod reduction;
 mod rows;
@@ -14,7 +16,7 @@ use table::Table;
 use units::LINE_CAPACITY;
 
 // The number of a refusal and no table, which is the blank one; or 0 and the table with the links that remain.
-#[derive(Drop)]
+#[derive(Clone, Copy)]
 pub struct Core {
     pub refused: u32,
     pub table: Table,

@@ -5,7 +5,7 @@ ghost use Rattle.port.specs.Charging.{charge_by};
 use crate::Port;
 
 // Whether the frame passed the police check, and the port after it.
-#[derive(Drop)]
+#[derive(Clone, Copy)]
 pub(crate) struct Charged {
     pub passed: bool,
     pub port: Port,

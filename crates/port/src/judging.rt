@@ -7,7 +7,7 @@ use numbers::u32_as_u64;
 use table_lookup::Place;
 
 // The verdict, and the port after it.
-#[derive(Drop)]
+#[derive(Clone, Copy)]
 pub(crate) struct Judged {
     pub verdict: u32,
     pub port: Port,

@@ -1,4 +1,6 @@
 // An output port: the fresh port, frame and wait reports.
+#![tactic(auto)]
+
 mod advancing;
 mod charging;
 mod counting;
@@ -15,7 +17,7 @@ use port_policing::Gate;
 use port_scheduler::{Queue, Sender};
 use table::Table;
 
-#[derive(Drop)]
+#[derive(Clone, Copy)]
 pub struct Port {
     pub table: Table,
     pub clock: u64,
@@ -29,7 +31,7 @@ pub struct Port {
 
 // 0 or the number of the refusal; the verdict (0 for a wait), frames and bytes freed, all 0 with a refusal;
 // and the port handed back.
-#[derive(Drop)]
+#[derive(Clone, Copy)]
 pub struct Answer {
     pub refused: u32,
     pub verdict: u32,
@@ -39,7 +41,7 @@ pub struct Answer {
 }
 
 // 0 and the fresh port; or the number of the refusal and no port, which is the blank one.
-#[derive(Drop)]
+#[derive(Clone, Copy)]
 pub struct Fresh {
     pub refused: u32,
     pub port: Port,

@@ -1,4 +1,6 @@
 // A batch of reports to a port: one call in place of many.
+#![tactic(auto)]
+
 mod refusals;
 mod running;
 
@@ -7,7 +9,7 @@ ghost use Rattle.port_batch.specs.Promised.{Batches};
 use port::Port;
 
 // 0 or the number of the refusal, 19 or 20; how many departures were written; and the port handed back.
-#[derive(Drop)]
+#[derive(Clone, Copy)]
 pub struct Batched {
     pub refused: u32,
     pub departures: u64,

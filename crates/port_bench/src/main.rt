@@ -1,6 +1,8 @@
 // For bench/: queues frames, then waits at one tick over and over, so that the time of a report can be taken; or reports
 // frames over and over, each when the one before has left.
 // Standard input: how many frames queued, how many waits, how many frames reported, 8 bytes each, little-endian, then a table file.
+#![tactic(auto)]
+
 ghost use Rattle.std.specs.Prelude.{◌≤◌};
 
 use libc::{STDIN_FILENO, STDOUT_FILENO};

@@ -1,6 +1,8 @@
 // Runs the cases of standard input through the port: the fresh port of a table record or a port record, and
 // a list of reports; and prints a line for each answer. What it must print was computed by reference/, whose
 // src/cases/port.rs has the form of a case.
+#![tactic(auto)]
+
 use case_records::given::least;
 use case_records::rows::{number, print, say};
 use case_records::{record, sums};
@@ -22,7 +24,7 @@ const LIST: usize = LIST_ROOM + 20;
 const FILLED: u64 = 0xA5A5A5A5A5A5A5A5;
 
 // The port after some reports, and whether one of them was accepted.
-#[derive(Drop)]
+#[derive(Clone, Copy)]
 struct Reached {
     port: Port,
     moved: bool,

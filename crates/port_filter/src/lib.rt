@@ -1,4 +1,6 @@
 // Internal to the product: the filter, which gives the place of the virtual link that a frame is let through for.
+#![tactic(auto)]
+
 ghost use Rattle.std.specs.Prelude.{◌≡◌, ℕ};
 ghost use Rattle.model.specs.Table.{table_refusal};
 ghost use Rattle.model.specs.Report.{admits as admitsFrame};

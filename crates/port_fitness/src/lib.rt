@@ -1,4 +1,6 @@
 // Internal to the product: the fitness of single parts of a port record: a frame, the frame being sent, lines, accounts.
+#![tactic(auto)]
+
 ghost use Rattle.std.specs.Prelude.{◌≡◌, List, [], ◌∷◌, ℕ, ◌≤◌, ◌<◌, get_or};
 ghost use Rattle.model.specs.Basics.{all_hold};
 ghost use Rattle.model.specs.Machine.{sending};

@@ -1,4 +1,6 @@
 // Internal to the product: the account of a virtual link (a token bucket), the police check, the accounts at rest, and the gate.
+#![tactic(auto)]
+
 ghost use Rattle.std.specs.Prelude.{◌≡◌, ◌+◌, ◌-◌, ◌≤◌, ◌<◌, min};
 ghost use Rattle.port_policing.specs.Check.{check_by};
 ghost use Rattle.port_policing.specs.Full.{full_accounts};
@@ -7,21 +9,21 @@ use numbers::{excess, u32_as_u64};
 use table::Table;
 
 // Credit in ticks, and the tick of its last change.
-#[derive(Drop)]
+#[derive(Clone, Copy)]
 pub struct Account {
     pub credit: u64,
     pub tick: u64,
 }
 
 // For each line the tick of its last frame; for each virtual link its account.
-#[derive(Drop)]
+#[derive(Clone, Copy)]
 pub struct Gate {
     pub line_ticks: [u64; 24],
     pub accounts: [Account; 256],
 }
 
 // Whether the frame passed, and the account after it.
-#[derive(Drop)]
+#[derive(Clone, Copy)]
 pub struct Checked {
     pub passed: bool,
     pub account: Account,

@@ -1,4 +1,6 @@
 // Internal to the product: the fitness of the queues of a port record and of its sender.
+#![tactic(auto)]
+
 ghost use Rattle.std.specs.Prelude.{◌≡◌, false, ◌≤◌, ◌<◌, length};
 ghost use Rattle.model.specs.Units.{most_frames};
 ghost use Rattle.model.specs.Table.{table_refusal};
@@ -13,7 +15,7 @@ use table_lookup::Place;
 use units::MOST_FRAMES;
 
 // Whether what was tested fits, and, if so, how many frames are held; else 0.
-#[derive(Drop)]
+#[derive(Clone, Copy)]
 pub struct Fitness {
     pub fits: bool,
     pub frames: u64,

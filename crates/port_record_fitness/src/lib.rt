@@ -1,4 +1,6 @@
 // Internal to the product: the fitness of a whole port record, part by part.
+#![tactic(auto)]
+
 ghost use Rattle.std.specs.Prelude.{◌≡◌, length};
 ghost use Rattle.port_record_fitness.specs.Fitness.{table_fits, port_fitness};
 

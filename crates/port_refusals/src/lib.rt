@@ -1,4 +1,6 @@
 // Internal to the product: reports, and their refusals 11 to 16 over numbers of a port that is fit.
+#![tactic(auto)]
+
 ghost use Rattle.std.specs.Prelude.{◌≡◌, [], ◌∷◌};
 ghost use Rattle.model.specs.Basics.{entries, first_met};
 ghost use Rattle.model.specs.Report.{tick_of, frame_checks, report_checks, room_check};
@@ -7,7 +9,7 @@ ghost use Rattle.port_refusals.specs.Reports.{view_report, Clocked};
 use units::LAST_TICK;
 
 // A report: a wait until a tick; or a frame with its tick, line, number and length.
-#[derive(Drop)]
+#[derive(Clone, Copy)]
 pub enum Report {
     Wait(u64),
     Frame(u64, u64, u64, u64),

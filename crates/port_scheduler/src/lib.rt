@@ -1,4 +1,6 @@
 // Internal to the product: queues, the sender, and the advance frame by frame.
+#![tactic(auto)]
+
 ghost use Rattle.std.specs.Prelude.{◌≡◌, ◌++◌, ◌∷◌, ◌+◌, ◌≤◌, ◌<◌, length, take, drop};
 ghost use Rattle.model.specs.Units.{most_frames};
 ghost use Rattle.model.specs.Machine.{highest_waiting, start_if_any, frames_held, held as heldBytes};
@@ -9,7 +11,7 @@ ghost use Rattle.port_scheduler.specs.Sending.{Sends, Positive, GoesOn, HeadGone
 use numbers::u16_as_u64;
 use units::{MOST_FRAMES, occupancy};
 
-#[derive(Drop)]
+#[derive(Clone, Copy)]
 pub struct Frame {
     pub number: u16,
     pub length: u16,
@@ -17,7 +19,7 @@ pub struct Frame {
 }
 
 // The first count frames are queued, the oldest first.
-#[derive(Drop)]
+#[derive(Clone, Copy)]
 pub struct Queue {
     pub count: u16,
     pub mark: u32,
@@ -25,14 +27,14 @@ pub struct Queue {
 }
 
 // Sending: the priority whose head is being sent, and the tick at which it started.
-#[derive(Drop)]
+#[derive(Clone, Copy)]
 pub enum Sender {
     Idle,
     Sending(u8, u64),
 }
 
 // What an advance leaves, and how many frames and bytes it freed.
-#[derive(Drop)]
+#[derive(Clone, Copy)]
 pub struct Moved {
     pub queues: [Queue; 8],
     pub sender: Sender,

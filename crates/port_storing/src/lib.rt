@@ -1,4 +1,6 @@
 // Internal to the product: a frame that passed the police check, stored or dropped.
+#![tactic(auto)]
+
 ghost use Rattle.std.specs.Prelude.{◌≡◌, ◌+◌, ◌<◌, ◌^◌, max, leb};
 ghost use Rattle.model.specs.Units.{most_frames};
 ghost use Rattle.port_scheduler.specs.Promised.{Pushed};
@@ -8,7 +10,7 @@ use numbers::{u16_as_u64, u32_as_u64};
 use port_scheduler::{Frame, Queue};
 
 // The verdict of a frame that passed the police check, and the queue of its link's priority after it.
-#[derive(Drop)]
+#[derive(Clone, Copy)]
 pub struct Settled {
     pub verdict: u32,
     pub queue: Queue,

@@ -1,4 +1,6 @@
 // The counts of a port record added up: each link's sum, and the grand total where there is one.
+#![tactic(auto)]
+
 ghost use Rattle.std.specs.Prelude.{◌≡◌};
 ghost use Rattle.model.specs.Fitness.{fit};
 ghost use Rattle.model.specs.Sums.{sums};

@@ -1,4 +1,6 @@
 // Networks A and B: of the frames that wait on two networks the earlier is taken, and one of two copies is handed on.
+#![tactic(auto)]
+
 ghost use Rattle.std.specs.Prelude.{◌≡◌, ◌&&◌, ◌||◌, not, ◌-◌, ◌<◌, eqb, leb, length, take};
 ghost use Rattle.model.specs.Redundancy.{network_a, network_b, fresh, sequence_number, among, sound, is_new, last_after, decide_on, refused_by, decide, part_of, select};
 ghost use Rattle.redundancy.specs.View.{view_received, view_handed_on, view_state, view_decision, view_selection, presented, frames};
@@ -6,28 +8,28 @@ ghost use Rattle.redundancy.specs.View.{view_received, view_handed_on, view_stat
 use numbers::{excess, u8_as_u16};
 
 // The number last received on a network.
-#[derive(Drop)]
+#[derive(Clone, Copy)]
 pub enum Received {
     Nothing,
     Number(u8),
 }
 
 // What was handed on last: its number and its tick.
-#[derive(Drop)]
+#[derive(Clone, Copy)]
 pub enum HandedOn {
     Nothing,
     Frame(u8, u64),
 }
 
 // Where a frame was taken from.
-#[derive(Drop)]
+#[derive(Clone, Copy)]
 pub enum Network {
     Neither,
     A,
     B,
 }
 
-#[derive(Drop)]
+#[derive(Clone, Copy)]
 pub struct State {
     pub skew: u64,
     pub on_a: Received,
@@ -37,7 +39,7 @@ pub struct State {
 }
 
 // 0 or the refusal, what was taken and whether it was handed on, and the new state.
-#[derive(Drop)]
+#[derive(Clone, Copy)]
 pub struct Decision {
     pub refused: u8,
     pub network: Network,
@@ -46,7 +48,7 @@ pub struct Decision {
 }
 
 // A decision, and the part of the taken frame that is handed on.
-#[derive(Drop)]
+#[derive(Clone, Copy)]
 pub struct Selection<'a> {
     pub decision: Decision,
     pub part: &'a [u8],

@@ -1,4 +1,6 @@
 // For bench/: two recordings in memory run through the call of `redundancy`, one call after the other.
+#![tactic(auto)]
+
 ghost use Rattle.std.specs.Prelude.{◌≡◌, get_or};
 ghost use Rattle.model.specs.Redundancy.{fresh};
 ghost use Rattle.redundancy.specs.View.{view_network};

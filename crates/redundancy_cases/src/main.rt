@@ -1,5 +1,7 @@
 // Runs the cases of standard input through networks A and B: a state, and calls with the frames that wait; and prints a line for
 // each call. What it must print was computed by reference/, whose src/cases/redundancy.rs has the form of a case.
+#![tactic(auto)]
+
 use libc::{STDIN_FILENO, STDOUT_FILENO};
 use little_endian::{read2, read8};
 use redundancy::{Decision, HandedOn, Network, Received, State};

@@ -1,4 +1,6 @@
 // Internal to the product: the call of `redundancy` for callers that keep no reference in a struct, its part told by length and ends.
+#![tactic(auto)]
+
 ghost use Rattle.std.specs.Prelude.{◌≡◌};
 ghost use Rattle.model.specs.Redundancy.{select};
 ghost use Rattle.redundancy.specs.View.{view_state, view_decision, presented};
@@ -7,14 +9,14 @@ ghost use Rattle.redundancy_measure.specs.Measure.{measure_of};
 use redundancy::{Decision, State};
 
 // How many bytes a part has, its first and its last, 0 where there is none.
-#[derive(Drop)]
+#[derive(Clone, Copy)]
 pub struct Measure {
     pub length: usize,
     pub first: u8,
     pub last: u8,
 }
 
-#[derive(Drop)]
+#[derive(Clone, Copy)]
 pub struct MeasuredSelection {
     pub decision: Decision,
     pub measure: Measure,

@@ -23,7 +23,7 @@ pub(crate) const REFUSED: u8 = 4;
 pub(crate) const UNWRITTEN: u8 = 5;
 
 // What a call says: the refusal or 0, whose frame was taken, whether it was handed on, how long the part is, and the new state.
-#[derive(Drop)]
+#[derive(Clone, Copy)]
 struct Answer {
     refused: u8,
     is_a: bool,
@@ -34,7 +34,7 @@ struct Answer {
 }
 
 // The state so far, the frames that wait, what is still to be written, and how the run ends.
-#[derive(Drop)]
+#[derive(Clone, Copy)]
 struct Reached {
     state: State,
     a: Recording,

@@ -1,6 +1,8 @@
 // redundancy SKEW A B: presents the waiting frames of two recordings, again and again, and prints a line for each call. A recording
 // is a run of frames: tick and length (8 bytes each, little-endian; lengths from 1 to 2,048), and as many bytes. `-` names
 // standard input.
+#![tactic(auto)]
+
 mod calls;
 mod recording;
 

@@ -21,7 +21,7 @@ const BROKEN: u8 = 2;
 
 // The frame that waits: its tick, and where its bytes lie in the part; of length 0 where the recording has ended, or where it has
 // something other than a frame, which `failed` tells. The part is filled up to `to`.
-#[derive(Drop)]
+#[derive(Clone, Copy)]
 pub(crate) struct Recording {
     pub failed: bool,
     pub tick: u64,
@@ -32,7 +32,7 @@ pub(crate) struct Recording {
 }
 
 // The bytes of a part that are still to be read: from one place up to another.
-#[derive(Drop)]
+#[derive(Clone, Copy)]
 struct Unread {
     from: usize,
     to: usize,

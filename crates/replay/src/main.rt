@@ -2,6 +2,8 @@
 // answer of each, then held bytes and mark of each priority, then the counts of each virtual link, of
 // unknown numbers and in total. A report is five little-endian numbers of 8 bytes: form (0 a wait, 1 a
 // frame), tick, line, number, length.
+#![tactic(auto)]
+
 mod answers;
 mod counts;
 mod parts;

@@ -28,7 +28,7 @@ pub(crate) const FAILED: u8 = 3;
 pub(crate) const UNWRITTEN: u8 = 4;
 
 // What stands behind a part, and how many bytes of it are those of reports.
-#[derive(Drop)]
+#[derive(Clone, Copy)]
 struct Part {
     state: u8,
     n: usize,

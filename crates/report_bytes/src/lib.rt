@@ -1,4 +1,6 @@
 // Internal to the product: reports, answers and departures as numbers in 8 little-endian bytes, and the refusals 19 and 20 of them.
+#![tactic(auto)]
+
 ghost use Rattle.std.specs.Prelude.{◌≡◌, ◌&&◌, [], ◌∷◌, ◌+◌, ◌*◌, ◌%◌, ◌≤◌, eqb, length, take};
 ghost use Rattle.model.specs.Batch.{are_reports, numbers_in, bytes_of, bytes_refusal};
 ghost use Rattle.little_endian.specs.Output.{laid};

@@ -1,5 +1,7 @@
 // Reads a table file on standard input and prints its sheet, or `refused N`. A program has no exit status, so what
 // else there is to know goes to standard error: a message, or `refused` alone.
+#![tactic(auto)]
+
 use libc::{STDERR_FILENO, STDIN_FILENO, STDOUT_FILENO};
 
 fn main() {

@@ -1,4 +1,6 @@
 // Internal to the product: the lines of the sheet.
+#![tactic(auto)]
+
 ghost use Rattle.std.specs.Prelude.{◌≡◌, ◌++◌, ◌+◌, ◌≤◌, pos, ◌-ℤ◌};
 ghost use Rattle.model.specs.Sheet.{text, numeral, difference, fill, sheet_line};
 ghost use Rattle.sheet_numerals.specs.Fixed.{text_room, most_line, record_text, Appended};

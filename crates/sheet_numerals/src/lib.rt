@@ -1,4 +1,6 @@
 // Internal to the product: the sheet's text in a fixed array, with bytes and numbers put behind it.
+#![tactic(auto)]
+
 ghost use Rattle.std.specs.Prelude.{◌≡◌, [], ◌+◌, ◌≤◌, nat_abs, length};
 ghost use Rattle.model.specs.Sheet.{numeral};
 ghost use Rattle.sheet_numerals.specs.Fixed.{text_room, record_text, Appended, ended, signed_numeral};
@@ -11,7 +13,7 @@ const LINE: usize = 72;
 pub const ROOM: usize = 43 + 8 * LINE;
 
 // Bytes behind len are 0.
-#[derive(Drop)]
+#[derive(Clone, Copy)]
 pub struct Text {
     pub bytes: [u8; ROOM],
     pub len: usize,

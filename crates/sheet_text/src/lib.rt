@@ -1,4 +1,6 @@
 // The sheet of a table file, as text in a fixed array.
+#![tactic(auto)]
+
 ghost use Rattle.std.specs.Prelude.{◌≡◌, min};
 ghost use Rattle.model.specs.Basics.{first_refusal};
 ghost use Rattle.model.specs.Sheet.{sheet};

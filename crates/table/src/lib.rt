@@ -1,4 +1,6 @@
 // The table record, and its checks.
+#![tactic(auto)]
+
 pub mod checks;
 
 ghost use Rattle.std.specs.Prelude.{◌≡◌};
@@ -9,7 +11,7 @@ ghost use Rattle.table.specs.View.{blank_fields, view_table, record_table};
 use numbers::{smaller, u8_as_u64};
 use units::LEAST_BAG;
 
-#[derive(Drop)]
+#[derive(Clone, Copy)]
 pub struct VirtualLink {
     pub line: u8,
     pub priority: u8,
@@ -20,7 +22,7 @@ pub struct VirtualLink {
 }
 
 // Numbers apart from links: a lookup reads them alone.
-#[derive(Drop)]
+#[derive(Clone, Copy)]
 pub struct Table {
     pub lines: u16,
     pub count: u16,

@@ -1,6 +1,8 @@
 // Runs the cases of standard input through the reader, the check and the writer of tables and the BAG of a code, and prints
 // a line for each. What it must print was computed by reference/, whose src/cases/table.rs has the form
 // of a case: form (1: a file, 2: a record, 3: a BAG code), length in two bytes, as many bytes.
+#![tactic(auto)]
+
 ghost use Rattle.std.specs.Prelude.{◌≤◌};
 
 use libc::{STDIN_FILENO, STDOUT_FILENO};

@@ -1,4 +1,6 @@
 // The table file: its reader and its writer.
+#![tactic(auto)]
+
 mod steps;
 mod walk;
 mod writer;
@@ -12,14 +14,14 @@ ghost use Rattle.table_file.specs.Answers.{record_reading, Wrote};
 use table::Table;
 
 // The number of a refusal and no table, which is the blank one; or 0 and the table.
-#[derive(Drop)]
+#[derive(Clone, Copy)]
 pub struct Reading {
     pub refused: u32,
     pub table: Table,
 }
 
 // The number of a refusal, or 0 and the bytes written.
-#[derive(Drop)]
+#[derive(Clone, Copy)]
 pub struct Writing {
     pub refused: u32,
     pub written: usize,

@@ -8,7 +8,7 @@ use table_record_reader::Record;
 
 // The refusal, 0 if none; the bytes that the record took, 0 where the reader stops; the counts;
 // the link with its number and its place, which is the number of records read where the reader stops.
-#[derive(Drop)]
+#[derive(Clone, Copy)]
 pub(crate) struct Step {
     pub(crate) refused: u32,
     pub(crate) taken: usize,

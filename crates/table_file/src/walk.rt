@@ -7,7 +7,7 @@ ghost use Rattle.table_file.specs.Answers.{record_reading};
 use crate::{Reading, steps};
 use table_record_reader::Record;
 
-#[derive(Drop)]
+#[derive(Clone, Copy)]
 pub(crate) struct Walk<'a> {
     pub(crate) rest: &'a [u8],
     pub(crate) read: usize,

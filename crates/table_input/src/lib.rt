@@ -1,4 +1,6 @@
 // Internal to the product: the table file that a program is given on standard input.
+#![tactic(auto)]
+
 ghost use Rattle.std.specs.Prelude.{◌≤◌};
 ghost use Rattle.io.specs.Counts.{IsPrefixLen};
 ghost use Rattle.table_input.specs.Taken.{Taken};
@@ -16,7 +18,7 @@ pub const LONGEST: usize = 4652;
 pub const ROOM: usize = LONGEST + 1;
 
 // Whether a table was given, one that passes its checks; if not, the table is the blank one.
-#[derive(Drop)]
+#[derive(Clone, Copy)]
 pub struct TableInput {
     pub is_table: bool,
     pub table: Table,

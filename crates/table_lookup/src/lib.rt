@@ -1,10 +1,12 @@
 // Internal to the product: looking the number of a virtual link up.
+#![tactic(auto)]
+
 ghost use Rattle.std.specs.Prelude.{◌≤◌, ◌<◌, length};
 ghost use Rattle.table_lookup.specs.Places.{Rising, Found};
 
 use numbers::u16_as_u64;
 
-#[derive(Drop)]
+#[derive(Clone, Copy)]
 pub enum Place {
     At(usize),
     Nowhere,

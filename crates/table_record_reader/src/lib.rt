@@ -1,4 +1,6 @@
 // Internal to the product: the record reader of the table file: what the bytes not yet read begin with, told what is due.
+#![tactic(auto)]
+
 ghost use Rattle.std.specs.Prelude.{◌≡◌};
 ghost use Rattle.model.specs.Basics.{first_met};
 ghost use Rattle.model.specs.TableFile.{header_checks, link_read, sizes_read};
@@ -11,7 +13,7 @@ use numbers::u16_as_usize;
 use table::{VirtualLink, checks};
 
 // A record of the table file: counts of lines and links, a link with its number, the sizes; or the refusal.
-#[derive(Drop)]
+#[derive(Clone, Copy)]
 pub enum Record {
     Counts(u16, u16),
     Link(u16, VirtualLink),

@@ -1,4 +1,6 @@
 // Internal to the product: the records of the table file, each laid down as length, kind and body.
+#![tactic(auto)]
+
 ghost use Rattle.std.specs.Prelude.{◌≡◌, ◌+◌, ◌*◌, ◌≤◌, length};
 ghost use mathlib.Core.List.{◌++◌, flat_map};
 ghost use Rattle.model.specs.TableFile.{to_bytes, record_bytes, counts_body, link_body, sizes_body};

@@ -1,4 +1,6 @@
 // The next switch on the way: the table for the port that is fed by this one.
+#![tactic(auto)]
+
 mod rows;
 
 ghost use Rattle.std.specs.Prelude.{◌≡◌};
@@ -10,7 +12,7 @@ ghost use Rattle.tandem.specs.Answer.{record_next};
 use table::Table;
 
 // The number of a refusal and no table, which is the blank one; or 0 and the table, with sizes 0, which the caller sets.
-#[derive(Drop)]
+#[derive(Clone, Copy)]
 pub struct Next {
     pub refused: u32,
     pub table: Table,

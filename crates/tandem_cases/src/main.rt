@@ -1,5 +1,7 @@
 // Runs the cases of standard input: calls for the next switch's table, and lists of reports through two ports in a row; and prints what
 // they leave. What it must print was computed by reference/, whose src/cases/tandem.rs has the form of a case.
+#![tactic(auto)]
+
 mod ports;
 mod reports;
 mod tables;

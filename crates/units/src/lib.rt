@@ -1,4 +1,6 @@
 // Internal to the product: the units of the paper as constants, each once.
+#![tactic(auto)]
+
 ghost use Rattle.std.specs.Prelude.{◌≡◌, [], ◌∷◌, ◌≤◌, leb};
 ghost use Rattle.model.specs.Basics.{all_hold};
 ghost use Rattle.model.specs.Units.{least_length, greatest_length, occupied};
