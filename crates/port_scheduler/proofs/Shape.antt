@@ -12,7 +12,7 @@ use Rattle.port_scheduler.specs.contracts.Frame.{the_field as frame-field}
 use Rattle.port_scheduler.specs.contracts.Queue.{the_type}
 
 pub queue_whole : (q : Queue) (vs : List Val) → Is (row the_type) q vs → length q.frames ≡ most_frames
-queue_whole q vs p = sym (length-map q.frames frame-field.into) ∙ p.1.1.1.1.0.1.0.1
+queue_whole q vs p = p.1.1.1.1.0.1.0.1
 
 pub queues_eight : (qs : List Queue) (vs : List Val) → Is (Array (row the_type) 8) qs vs → length qs ≡ 8
 queues_eight qs vs s = s.1.0.1

@@ -25,9 +25,9 @@ pub record Sized (t : TableRecord) : Type 0 where
 pub sized : (t : TableRecord) (vs : List Val) → Is (row the_type) t vs → Sized t
 sized t vs p =
     record {
-      numbers = sym (length-map t.numbers u16-field.into) ∙ p.1.1.1.1.0.1.0.1;
-      links = sym (length-map t.links link-field.into) ∙ p.1.1.1.1.1.0.1.0.1;
-      sizes = sym (length-map t.sizes u32-field.into) ∙ p.1.1.1.1.1.1.0.1.0.1;
+      numbers = p.1.1.1.1.0.1.0.1;
+      links = p.1.1.1.1.1.0.1.0.1;
+      sizes = p.1.1.1.1.1.1.0.1.0.1;
     }
 
 -- ---- the view

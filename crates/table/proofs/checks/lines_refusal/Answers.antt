@@ -1,0 +1,6 @@
+use borrow.Author.Rules.{rules}
+use Rattle.table.specs.View.{view_links}
+use Rattle.table.proofs.checks.lines_refusal.Goals as goal
+
+pub returns : goal.returns
+returns c = c.oversold.ensures (view_links c.args.t) c.reserved-sums.ensures

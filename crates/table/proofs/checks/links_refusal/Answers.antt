@@ -1,0 +1,73 @@
+use borrow.Author.Rules.{rules}
+use mathlib.Core.Path.{◌≡◌, refl}
+use mathlib.Core.Option.{none}
+use Prim.Native.Nat.{◌-◌, ◌≤◌}
+use native.Mathlib.Omega.{arith}
+use lib.ListN.{get_or, drop}
+use Rattle.model.specs.Basics.{first_met}
+use Rattle.model.specs.Table.{links_checks}
+use Rattle.model.proofs.TableFacts.{counts_fit}
+use Rattle.table.specs.Checks.{previous_of}
+use Rattle.table.specs.View.{view_links}
+use Rattle.table.proofs.Refusals.{previous_none}
+use Rattle.table.proofs.Shape.{sized}
+use Rattle.table.proofs.Reservations.{Summed, summed_none, summed_more, summed_all}
+use Rattle.table.proofs.Links.{links_stop, links_go_on, links_end}
+use Rattle.table.proofs.checks.links_refusal.Goals as goal
+
+pub loop-i-init : goal.loop-i-init
+loop-i-init c = (omega arith, refl, rw (previous_none 0), summed_none c.args.t (sized c.args.t _ c.well_formed.0))
+
+pub offset_bounds-t-i : goal.offset_bounds-t-i
+offset_bounds-t-i c = let k = counts_fit c.args.t.lines c.args.t.count c.requires in omega arith
+
+pub bounds-t-i : goal.bounds-t-i
+bounds-t-i c = let k = counts_fit c.args.t.lines c.args.t.count c.requires in omega arith
+
+pub offset_bounds-t-i-in-loop-i : goal.offset_bounds-t-i-in-loop-i
+offset_bounds-t-i-in-loop-i c = let k = counts_fit c.args.t.lines c.args.t.count c.requires in omega arith
+
+pub bounds-t-i-in-loop-i : goal.bounds-t-i-in-loop-i
+bounds-t-i-in-loop-i c = let k = counts_fit c.args.t.lines c.args.t.count c.requires in omega arith
+
+pub link_refusal-refused-requires : goal.link_refusal-refused-requires
+link_refusal-refused-requires c = tt
+
+pub returns-then-refused-ne0 : goal.returns-then-refused-ne0
+returns-then-refused-ne0 c = links_stop c.args.t _ c.well_formed.0 c.requires c.loop-i.previous c.loop-i.i (omega arith) c.loop-i.invariant.2 _ c.link_refusal-refused.ensures c.if-refused-ne0.true
+
+pub offset_bounds-sums-line : goal.offset_bounds-sums-line
+offset_bounds-sums-line c = omega arith
+
+pub bounds-sums-line : goal.bounds-sums-line
+bounds-sums-line c = omega arith
+
+pub overflow_add-sums : goal.overflow_add-sums
+overflow_add-sums c =
+    let k = counts_fit c.args.t.lines c.args.t.count c.requires in
+    omega (arith, c.loop-i.invariant.3.most c.u8_as_usize-line.result)
+
+pub bounds-sums-line-in-loop-i : goal.bounds-sums-line-in-loop-i
+bounds-sums-line-in-loop-i c = omega arith
+
+pub overflow_add-i : goal.overflow_add-i
+overflow_add-i c = omega arith
+
+pub loop-i-smaller : goal.loop-i-smaller
+loop-i-smaller c = omega arith
+
+pub loop-i-preserved : goal.loop-i-preserved
+loop-i-preserved c =
+    let t = c.args.t in
+    let k = counts_fit t.lines t.count c.requires in (
+      omega arith,
+      refl,
+      links_go_on t _ c.well_formed.0 c.requires c.loop-i.previous c.loop-i.i (omega arith) c.loop-i.invariant.2 _ c.link_refusal-refused.ensures c.if-refused-ne0.false,
+      summed_more t (sized t _ c.well_formed.0) c.loop-i.invariant.3 (omega arith) c.u8_as_usize-line.result c.reservation_of-more.result c.u8_as_usize-line.ensures.0 c.u8_as_usize-line.ensures.1 (c.reservation_of-more.ensures.0 (get_or t.numbers c.loop-i.i 0)) c.reservation_of-more.ensures.1,
+    )
+
+pub returns : goal.returns
+returns c =
+    let t = c.args.t in
+    let k = counts_fit t.lines t.count c.requires in
+    links_end t c.loop-i.previous c.loop-i.i (omega arith) c.loop-i.invariant.2 _ (c.oversold.ensures (view_links t) (summed_all t (sized t _ c.well_formed.0) c.loop-i.invariant.3 (omega arith)))
