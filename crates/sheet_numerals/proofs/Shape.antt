@@ -17,4 +17,4 @@ pub word : {n : ℕ} → Fits w32 n → n ≤ 4_294_967_295
 word f = omega (arith, f.fits)
 
 pub sized : (t : Text) (vs : List Val) → Is (row the_type) t vs → length t.bytes ≡ text_room
-sized t vs p = sym (length-map t.bytes u8-field.into) ∙ p.1.1.0.1.0.1
+sized t vs p = p.1.1.0.1.0.1

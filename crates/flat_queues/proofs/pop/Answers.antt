@@ -1,0 +1,22 @@
+-- src/lib.rt:25:16
+-- src/lib.rt:25:16
+-- src/lib.rt:25:16
+-- src/lib.rt:25:5
+-- src/lib.rt:25:5
+-- src/lib.rt:26:17
+-- src/lib.rt:26:17
+-- src/lib.rt:26:17
+-- src/lib.rt:26:5
+-- src/lib.rt:26:5
+-- src/lib.rt:21:1
+-- src/lib.rt:21:1
+-- src/lib.rt:21:1
+use native.Mathlib.Omega.{arith}
+use Rattle.flat_queues.proofs.Rounds.{popped}
+use borrow.Author.Rules.{rules}
+use Rattle.flat_queues.proofs.pop.Reads as reads
+use Rattle.flat_queues.proofs.pop.Lts as lts
+use Rattle.flat_queues.proofs.pop.Goals as goal
+
+pub returns : goal.returns
+returns c = popped c.args.heads.now c.args.counts.now c.args.p (omega arith) (omega arith) (omega arith)

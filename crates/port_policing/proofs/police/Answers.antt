@@ -1,0 +1,11 @@
+-- The two outcomes of the police check.
+use borrow.Author.Rules.{rules}
+use native.Mathlib.Omega.{arith}
+use Rattle.port_policing.proofs.Bucket.{is_policed, passes}
+use Rattle.port_policing.proofs.police.Goals as goal
+
+pub returns-then-gone-short : goal.returns-then-gone-short
+returns-then-gone-short c = is_policed c.args.bag c.args.jitter c.args.a c.args.time c.excess-gone.ensures (omega arith) c.if-gone-short.true
+
+pub returns : goal.returns
+returns c = passes c.args.bag c.args.jitter c.args.a c.args.time c.excess-gone.ensures (omega arith) {rest = c.excess.result} (omega arith) (omega arith) c.if-gone-short.false

@@ -1,0 +1,12 @@
+-- A frame taken from A.
+use mathlib.Core.Path.{refl}
+use borrow.Author.Rules.{rules}
+use Rattle.model.specs.Redundancy.{received_on, next_on_a, next_on_b}
+use Rattle.redundancy.specs.declared.Network.TheVariants.{A}
+use Rattle.redundancy.specs.declared.Received.TheVariants.{Number}
+use Rattle.redundancy.proofs.Rules.{decided}
+use Rattle.redundancy.proofs.decide_a.Goals as goal
+
+pub returns : goal.returns
+unfolding received_on next_on_a next_on_b
+returns c = decided c.args.s A c.args.number c.args.tick c.goes_on-handed_on.result (Number c.args.number) c.args.s.on_b c.last_after-last.result c.goes_on-handed_on.ensures refl refl c.last_after-last.ensures
