@@ -1,7 +1,7 @@
 -- `redundancy_bench::bench_redundancy`: the sum of the calls that are left, from here, is the whole sum.
 use Prim.Native.Nat.{◌-◌}
 use Rattle.redundancy.specs.View.{view_state}
-use Rattle.redundancy_bench.proofs.Summing.{Going}
+use Rattle.redundancy_bench.proofs.Summing.{recordings, Going}
 use Rattle.redundancy_bench.proofs.bench_redundancy.Given as goal
 
 abbrev pub invariant-loop-k : goal.invariant-loop-k

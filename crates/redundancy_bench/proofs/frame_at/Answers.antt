@@ -1,7 +1,6 @@
 -- The frame at a place, or none.
 use native.Mathlib.Omega.{arith}
 use Rattle.redundancy_bench.proofs.Summing.{frame_there, frame_past}
-use borrow.Author.Rules.{rules}
 use Rattle.redundancy_bench.proofs.frame_at.Goals as goal
 
 pub returns-then-k-frames : goal.returns-then-k-frames

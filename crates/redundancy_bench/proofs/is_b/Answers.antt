@@ -1,7 +1,6 @@
 -- Each case of the enum.
 use mathlib.Core.Path.{refl}
 use Rattle.redundancy_bench.specs.Sums.{is_b}
-use borrow.Author.Rules.{rules}
 use Rattle.redundancy_bench.proofs.is_b.Goals as goal
 
 pub returns-in-Neither : goal.returns-in-Neither

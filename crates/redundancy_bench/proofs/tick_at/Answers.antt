@@ -1,7 +1,6 @@
 -- The tick at a place, or 0.
 use native.Mathlib.Omega.{arith}
 use Rattle.redundancy_bench.proofs.Summing.{tick_past}
-use borrow.Author.Rules.{rules}
 use Rattle.redundancy_bench.proofs.tick_at.Goals as goal
 
 pub returns : goal.returns

@@ -1,7 +1,6 @@
 -- The sum, number by number.
 use mathlib.Core.Path.{refl}
 use Rattle.redundancy_bench.specs.Sums.{added}
-use borrow.Author.Rules.{rules}
 use Rattle.redundancy_bench.proofs.with_part.Goals as goal
 
 pub returns : goal.returns

@@ -1,14 +1,8 @@
--- src/lib.rt:26:9
--- src/lib.rt:34:16
--- src/lib.rt:35:20
--- src/lib.rt:35:15
--- src/lib.rt:21:1
 use mathlib.Core.Path.{◌≡◌, refl}
 use mathlib.Core.List.{List, [], ◌∷◌}
 use Prim.Native.Nat.{ℕ}
 use native.Mathlib.Nat.{suc-ne-zero}
 use lib.ListN.{length}
-use borrow.Author.Rules.{rules}
 use Rattle.redundancy_measure.specs.Measure.{measure_of}
 use Rattle.redundancy_measure.proofs.measure_of.Goals as goal
 
