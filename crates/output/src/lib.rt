@@ -5,6 +5,11 @@ pub mod messages;
 
 ghost use Rattle.std.specs.Prelude.{◌≡◌, true, false};
 
+// The files that a program begins with and writes to.
+pub const STDOUT_FILENO: i32 = 1;
+
+pub const STDERR_FILENO: i32 = 2;
+
 pub const ROOM: usize = 8192;
 
 // The file that is written to, how many bytes are collected, and whether a write has failed.

@@ -1,8 +1,7 @@
 // What a program says where it is refused or can't go on. None of it stays collected; whether the write took it, `failed` says.
 ghost use Rattle.std.specs.Prelude.{◌≡◌, true};
 
-use crate::{Out, ROOM};
-use libc::{STDERR_FILENO, STDOUT_FILENO};
+use crate::{Out, ROOM, STDERR_FILENO, STDOUT_FILENO};
 
 // To standard error: a message; or `refused` alone, which tells that all is refused and not one report of a list.
 pub fn tell(what: &[u8], name: &[u8]) -> Out

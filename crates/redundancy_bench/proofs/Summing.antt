@@ -74,3 +74,7 @@ module _ (r : Recordings) (skew calls : ℕ) {s : State} {i j total k : ℕ} (g 
 
   pub taken_a : b ≡ false → {i' j' : ℕ} → i' ≡ i + 1 → j' ≡ j → Going r skew calls (view_state d.state) i' j' total' (k + 1)
   taken_a e ei ej = record { at_a = omega (arith, g.at_a, ei); at_b = omega (arith, g.at_b, ej); made = omega (arith, more); whole = rw (ei, ej) (rw e at next) }
+
+-- the recordings that the call is given
+abbrev pub recordings : List ℕ → List ℕ → List ℕ → List ℕ → Recordings
+recordings a ticks_a b ticks_b = record { a = a; ticks_a = ticks_a; b = b; ticks_b = ticks_b }

@@ -60,7 +60,7 @@ pub extern "C" fn bench_redundancy<'a>(
     skew: u64,
     calls: usize,
 ) -> u64
-    ensures { result ≡ sum_of calls (record { a = a.entry.now; ticks_a = ticks_a.now; b = b.now; ticks_b = ticks_b.now }) (fresh skew) 0 0 0 }
+    ensures { result ≡ sum_of calls (record { a = a.now; ticks_a = ticks_a.now; b = b.now; ticks_b = ticks_b.now }) (fresh skew) 0 0 0 }
 {
     let mut state = State::fresh(skew);
     let mut total: u64 = 0;

@@ -1,6 +1,5 @@
 -- A frame taken from A.
 use mathlib.Core.Path.{refl}
-use borrow.Author.Rules.{rules}
 use Rattle.model.specs.Redundancy.{received_on, next_on_a, next_on_b}
 use Rattle.redundancy.specs.declared.Network.TheVariants.{A}
 use Rattle.redundancy.specs.declared.Received.TheVariants.{Number}

@@ -1,5 +1,4 @@
 -- Sound and new.
-use borrow.Author.Rules.{rules}
 use Rattle.redundancy.proofs.Rules.{left_fails, left_holds}
 use Rattle.redundancy.proofs.goes_on.Goals as goal
 

@@ -1,6 +1,5 @@
 -- By the distance.
 -- By the distance.
-use borrow.Author.Rules.{rules}
 use native.Mathlib.Omega.{arith}
 use Rattle.redundancy.proofs.Rules.{zero_follows_none, same_follows_none, follows_near}
 use Rattle.redundancy.proofs.is_among.Goals as goal

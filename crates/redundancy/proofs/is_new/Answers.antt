@@ -1,6 +1,5 @@
 -- None before, the last expired, number 0, or one of 127.
 use mathlib.Core.Path.{◌∙◌}
-use borrow.Author.Rules.{rules}
 use native.Mathlib.Omega.{arith}
 use Rattle.redundancy.proofs.Rules.{new_first, new_expired, new_zero, new_next}
 use Rattle.redundancy.proofs.is_new.Goals as goal

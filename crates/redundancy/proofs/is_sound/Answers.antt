@@ -1,6 +1,5 @@
 -- The first, number 0, or one of two.
 use mathlib.Core.Path.{◌∙◌}
-use borrow.Author.Rules.{rules}
 use Rattle.redundancy.proofs.Rules.{sound_first, sound_zero, sound_next}
 use Rattle.redundancy.proofs.is_sound.Goals as goal
 

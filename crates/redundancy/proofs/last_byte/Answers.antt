@@ -1,6 +1,5 @@
 -- The last byte, and 0 where there is none.
 use mathlib.Core.Path.{refl}
-use borrow.Author.Rules.{rules}
 use Rattle.model.specs.Redundancy.{sequence_number}
 use Rattle.redundancy.proofs.Rules.{no_last}
 use Rattle.redundancy.proofs.last_byte.Goals as goal

@@ -1,5 +1,4 @@
 -- All but the last byte.
-use borrow.Author.Rules.{rules}
 use native.Mathlib.Omega.{arith}
 use lib.ListN.{length-take}
 use Rattle.redundancy.proofs.Rules.{all_of_none}

@@ -1,6 +1,5 @@
 -- Refused with 17; or A or B, refused with 18 or taken.
 use mathlib.Core.Path.{sym, ap, ◌∙◌}
-use borrow.Author.Rules.{rules}
 use native.Mathlib.Omega.{arith}
 use Rattle.model.specs.Redundancy.{network_a, network_b, decide_on}
 use Rattle.redundancy.specs.View.{view_state}
