@@ -5,6 +5,13 @@ ghost use Rattle.std.specs.Prelude.{◌≡◌, true, length};
 ghost use Rattle.io.specs.Counts.{IsPrefixLen};
 ghost use Rattle.input.specs.Numerals.{is_digit, with_digit, capped, read_numeral};
 
+use std::env::FillError;
+use std::io::Read;
+use std::rt::Env;
+
+// The file that a program begins with and reads.
+pub const STDIN_FILENO: i32 = 0;
+
 #[derive(Clone, Copy)]
 pub struct Numeral {
     pub is_numeral: bool,
@@ -57,20 +64,70 @@ pub struct Given {
     pub is_read: bool,
 }
 
-// Reads until the buffer is full or the input ends.
-pub fn read(fd: i32, buf: &mut [u8]) -> Given
+// Reads until the buffer is full or the input ends, from a file or from standard input.
+pub fn read<R: Read>(fd: &mut R, buf: &mut [u8]) -> Given
     ensures prefix_len { IsPrefixLen result.length buf.new }
     ensures is_read_value { result.length ≡ length buf.new → result.is_read ≡ true }
 {
-    let n = io::read_full(fd, buf);
+    let n = read_full(fd, buf);
     Given {
         length: n,
         is_read: n == buf.len() || has_ended(fd),
     }
 }
 
+// Reads until the buffer is full, the input ends or a read fails, and answers how many bytes were put at its start.
+fn read_full<R: Read>(fd: &mut R, buf: &mut [u8]) -> usize
+    ensures { IsPrefixLen result buf.new }
+{
+    let mut done = 0;
+    while done < buf.len() {
+        let n = match fd.read(&mut buf[done..]) {
+            Ok(n) => n,
+            Err(_) => 0,
+        };
+        if n == 0 {
+            break;
+        }
+        done += n;
+    }
+    done
+}
+
 // Whether nothing is left to read. A read that fails tells it from the end.
-fn has_ended(fd: i32) -> bool {
+fn has_ended<R: Read>(fd: &mut R) -> bool {
     let mut one = [0u8; 1];
-    libc::read(fd, &mut one) == 0
+    match fd.read(&mut one) {
+        Ok(n) => n == 0,
+        Err(_) => false,
+    }
+}
+
+// How many words a program is given, its name among them.
+pub fn arg_count<E: Env>(rt: &E) -> usize {
+    for i in 0..usize::MAX {
+        if !is_arg(rt, i) {
+            return i;
+        }
+    }
+    usize::MAX
+}
+
+// One that does not fit is one too.
+fn is_arg<E: Env>(rt: &E, i: usize) -> bool {
+    match rt.arg(i, &mut []) {
+        Ok(_) => true,
+        Err(FillError::TooLong) => true,
+        Err(FillError::NotPresent) => false,
+    }
+}
+
+// Puts word i at the start of a buffer, and answers its length: 0 where it is missing or longer than the buffer.
+pub fn arg<E: Env>(rt: &E, i: usize, buf: &mut [u8]) -> usize
+    ensures { IsPrefixLen result buf.new }
+{
+    match rt.arg(i, buf) {
+        Ok(n) => n,
+        Err(_) => 0,
+    }
 }

@@ -2,10 +2,14 @@
 // each call. What it must print was computed by reference/, whose src/cases/redundancy.rs has the form of a case.
 #![tactic(auto)]
 
-use libc::{STDIN_FILENO, STDOUT_FILENO};
 use little_endian::{read2, read8};
 use redundancy::{Decision, HandedOn, Network, Received, State};
 use redundancy_measure::{Measure, measured};
+
+// The files that a program begins with.
+const STDIN_FILENO: i32 = 0;
+
+const STDOUT_FILENO: i32 = 1;
 
 // The bytes before the calls of a case: form, state, number of calls.
 const CASE: usize = 33;
