@@ -43,17 +43,18 @@ take_input() { # NAME
 is_built() {
     local newer
     [ -x "$program" ] || return 1
-    newer=$(find "$home/crates.txt" "$home/crates" -name must-fail -prune -o -newer "$program" -print -quit) || return 1
+    newer=$(find "$home/crates.txt" "$home"/crates/*/src "$home"/crates/*/specs "$home"/crates/*/proofs -newer "$program" -print -quit) || return 1
     [ -z "$newer" ]
 }
 
-# Proves and builds the program. It then counts as built when that began, so that an edit made meanwhile is newer.
+# Proves and builds the program, and runs it once on nothing, since rt builds what it runs. It then counts as built when that began,
+# so that an edit made meanwhile is newer.
 build() {
     local began said
     command -v rt >/dev/null || fail "rt, the command of the Rattle kit, is not on the PATH"
     [ -x "$program" ] || echo "proving and building, once: some minutes" >&2
     began=$(date +%s.%N)
-    said=$(cd -- "$home" && rt check "$1" 2>&1 </dev/null) || fail "$said"
+    said=$(cd -- "$home" && rt run "$1" 2>&1 </dev/null) || fail "$said"
     touch -d "@$began" -- "$program"
 }
 
@@ -73,7 +74,7 @@ part_progress() {
 # error beside how far it is tells how it went: nothing; `refused`; or a message. 141 is the end of a pipe that nobody reads.
 run() { # NAME WORDS..
     local name=$1 said status=0 lock out
-    program=$home/target/bin/$name
+    program=$home/crates/$name/out/$name
     shift
     if ! is_built; then
         # One wrapper builds at a time, and the others find it built.

@@ -1,5 +1,5 @@
 /* Fenuschia for a host in C: the table file, the sizing of a port's buffers, and a batch of reports to a port.
-   Link target/staticlib/libfenuschia_c.a, which `rt staticlib fenuschia_c` makes.
+   Link target/staticlib/libfenuschia_c.a, which examples/run makes.
 
    Numbers
    -------

@@ -15,7 +15,7 @@ const FRAME: u64 = 84;
 /// Seconds that the program takes, and the frames that it says are queued.
 fn product(file: &[u8], frames: u64, waits: u64, reports: u64) -> (f64, u64) {
     let start = Instant::now();
-    let mut child = Command::new(concat!(env!("CARGO_MANIFEST_DIR"), "/../target/bin/port_bench"))
+    let mut child = Command::new(concat!(env!("CARGO_MANIFEST_DIR"), "/../crates/port_bench/out/port_bench"))
         .stdin(Stdio::piped())
         .stdout(Stdio::piped())
         .spawn()

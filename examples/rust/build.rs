@@ -1,4 +1,4 @@
-//! Links the library that `rt staticlib fenuschia_c` makes.
+//! Links the library that examples/run makes.
 
 fn main() {
     let folder = format!("{}/../../target/staticlib", env!("CARGO_MANIFEST_DIR"));

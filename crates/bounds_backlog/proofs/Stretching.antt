@@ -6,7 +6,7 @@ use native.Mathlib.Omega.{arith}
 use lib.ListN.{length}
 use Rattle.model.specs.Units.{unkept}
 use Rattle.model.specs.Table.{table_refusal}
-use Rattle.model.specs.Bounds.{own_arrivals, up_arrivals, blocking, longest, backlog}
+use Rattle.model.specs.Bounds.{own_arrivals, up_arrivals, backlog}
 use Rattle.model.proofs.Holds.{up_grows}
 use Rattle.table.specs.declared.Table.{Table as TableRecord}
 use Rattle.table.specs.View.{view_links, view_table}

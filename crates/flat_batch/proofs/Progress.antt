@@ -2,25 +2,23 @@
 use mathlib.Core.Path.{◌≡◌, refl, sym, ap, ◌∙◌}
 use mathlib.Core.Bool.{Bool, true, false}
 use mathlib.Core.List.{List, [], ◌∷◌, ◌++◌, append-nil, append_assoc, flat_map}
-use Prim.Native.Nat.{ℕ, zero, suc, ◌+◌, ◌-◌, ◌*◌, ◌/◌, ◌≤◌, ◌<◌}
+use Prim.Native.Nat.{ℕ, ◌+◌, ◌-◌, ◌*◌, ◌≤◌, ◌<◌}
 use native.Mathlib.Omega.{arith}
 use lib.ListN.{length, get_or, take, drop, length-append, length-drop, take-append-drop, drop_of_length-le}
 use lib.Seq.{take_all, take_at, drop_at, drop-drop}
 use Rattle.model.specs.Basics.{Each, done, also}
 use Rattle.model.specs.Table.{Table}
-use Rattle.model.specs.Port.{Port}
-use Rattle.model.specs.Report.{Report, Answer}
+use Rattle.model.specs.Report.{Report}
 use Rattle.model.specs.Run.{Entry}
-use Rattle.model.specs.Batch.{Batched, reports_in, batch, answer_numbers, departure_numbers, frames_freed, over}
-use Rattle.model.proofs.Lists.{length-flat_map, flat_map_more, each_of_both}
-use Rattle.model.proofs.Batches.{Going, at_first, goes_on, at_last, entry_of, port_after, freed_more, over_more, Leaves, leaves}
+use Rattle.model.specs.Batch.{Batched, departure_numbers, frames_freed, over}
+use Rattle.model.proofs.Lists.{flat_map_more, each_of_both}
+use Rattle.model.proofs.Batches.{Going, at_first, goes_on, at_last, entry_of, freed_more, Leaves, leaves}
 use Rattle.flat_policing.specs.Accounts.{accounts_of}
 use Rattle.flat_port.specs.declared.State.{State}
 use Rattle.flat_port.specs.declared.Reported.{Reported}
 use Rattle.flat_port.specs.Lists.{Lists, view_state, Stands}
 use Rattle.flat_port.specs.Promised.{Reports}
-use Rattle.flat_batch.specs.declared.Ran.{Ran}
-use Rattle.flat_batch.specs.Promised.{batch_of, AllRefused, Still, Ends, Answers}
+use Rattle.flat_batch.specs.Promised.{batch_of, AllRefused, Still, Ends}
 
 each_back : {A : Type 0} {P : A → Type 0} (l : List A) (x : A) → Each P (l ++ (x ∷ [])) → Each P l × P x
 each_back [] x (also p done) = (done, p)

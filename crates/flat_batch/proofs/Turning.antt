@@ -1,7 +1,7 @@
 -- The loop over reports in numbers.
 use mathlib.Core.Path.{◌≡◌, refl, sym, ap, ◌∙◌}
 use mathlib.Core.Bool.{Bool, false}
-use mathlib.Core.List.{List, [], ◌∷◌, ◌++◌, append_assoc, flat_map}
+use mathlib.Core.List.{List, [], ◌∷◌, ◌++◌, flat_map}
 use Prim.Native.Nat.{ℕ, zero, suc, ◌+◌, ◌-◌, ◌*◌, ◌/◌, ◌^◌, ◌≤◌, ◌<◌}
 use native.Mathlib.Omega.{arith}
 use lib.ListN.{length, get_or, set, take, drop, length-append, length-drop}
@@ -18,7 +18,6 @@ use Rattle.flat_port.specs.declared.State.{State}
 use Rattle.flat_port.specs.declared.Reported.{Reported}
 use Rattle.flat_port.specs.Lists.{Lists, view_state, Stands}
 use Rattle.flat_port.specs.Promised.{Reports}
-use Rattle.flat_batch.specs.declared.Ran.{Ran}
 use Rattle.flat_batch.specs.Promised.{batch_of, Still, Ends, Answers}
 use Rattle.flat_batch.proofs.Progress.{Progress, at_start, at_end, left, one_more, start_fits, rest_lent, rest_back}
 

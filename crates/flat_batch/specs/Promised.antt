@@ -1,5 +1,5 @@
 -- What a batch on flat lists asks and promises.
-use Rattle.std.specs.Prelude.{◌≡◌, Bool, false, ℕ, ◌*◌, ◌/◌, ◌≤◌, ◌<◌, length, get_or, drop}
+use Rattle.std.specs.Prelude.{◌≡◌, Bool, false, ℕ, ◌*◌, ◌≤◌, ◌<◌, length, get_or, drop}
 use mathlib.Core.List.{List, flat_map}
 use Rattle.model.specs.Basics.{Each}
 use Rattle.model.specs.Table.{Table}

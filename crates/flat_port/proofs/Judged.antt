@@ -1,19 +1,19 @@
 -- A frame that arrived: the tick of its line, the filter, the police check and the store, in flat lists and in the model.
 use mathlib.Core.Path.{◌≡◌, refl, sym, ap, ◌∙◌}
-use mathlib.Core.Logic.{◌⊎◌, ⊎_elim}
+use mathlib.Core.Logic.{⊎_elim}
 use mathlib.Core.Bool.{Bool, true, false}
-use mathlib.Core.Option.{Option, none, some}
+use mathlib.Core.Option.{none, some}
 use mathlib.Core.List.{List}
 use Prim.Native.Nat.{ℕ, zero, suc, ◌+◌, ◌≤◌, ◌<◌}
 use native.Mathlib.Omega.{arith}
-use lib.ListN.{length, get_or, set, drop, length-set}
+use lib.ListN.{length, set, drop, length-set}
 use lib.Seq.{drop-set-lt}
 use Rattle.model.specs.Basics.{entries}
 use Rattle.model.specs.Link.{VirtualLink, bag, link_at, place_of}
-use Rattle.model.specs.Table.{Table, size_of, table_refusal}
+use Rattle.model.specs.Table.{Table, size_of}
 use Rattle.model.specs.Machine.{Frame, Sender, frames_held}
-use Rattle.model.specs.Port.{Account, Gate, Port, blank_account, account_at, with_gate, with_line_tick, with_account}
-use Rattle.model.specs.Report.{frame, Judged, judged, admitted, police, police_at, passed_if, store, judge, judge_report, arrived, counted_by}
+use Rattle.model.specs.Port.{Gate, Port, blank_account, account_at, with_gate, with_line_tick}
+use Rattle.model.specs.Report.{frame, Judged, admitted, police, police_at, passed_if, judge, judge_report, arrived, counted_by}
 use Rattle.model.proofs.Entries.{get_d_entries, entries_set}
 use Rattle.model.proofs.Passing.{Passing, is_passing}
 use Rattle.table_lookup.specs.declared.Place.{Place}
@@ -23,8 +23,8 @@ use Rattle.flat_queues.specs.View.{rings_of}
 use Rattle.flat_policing.specs.Accounts.{accounts_of, Charges}
 use Rattle.flat_policing.proofs.Flat.{length_accounts}
 use Rattle.flat_scheduler.specs.Promised.{Flat, Holds}
-use Rattle.flat_storing.specs.Storing.{Roomy, Shown, Settles, with_queues, Kept}
-use Rattle.flat_port.specs.Lists.{Lists, lists, queues_in, view_lists, Sized}
+use Rattle.flat_storing.specs.Storing.{Roomy, Shown, Settles, Kept}
+use Rattle.flat_port.specs.Lists.{Lists, lists, queues_in, view_lists}
 use Rattle.flat_port.specs.Promised.{Arrived, stored_by, judge_counted, Gives}
 
 pub is_stored : {n : ℕ} → n ≡ 0 → 1 ≡ stored_by n

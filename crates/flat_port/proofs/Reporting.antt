@@ -6,7 +6,7 @@ use Prim.Native.Nat.{ℕ, zero, suc, ◌+◌, ◌-◌, ◌*◌, ◌≤◌, ◌<�
 use native.Mathlib.Omega.{arith}
 use lib.ListN.{length, get_or, drop}
 use Rattle.model.specs.Table.{Table}
-use Rattle.model.specs.Machine.{Sender, Scheduler, at, advance, frames_held}
+use Rattle.model.specs.Machine.{Scheduler, at, advance, frames_held}
 use Rattle.model.specs.Port.{Port, with_scheduler}
 use Rattle.model.specs.Fitness.{fit}
 use Rattle.model.specs.Report.{Report, wait, frame, tick_of, report_refusal, Judged, judge_report, counted_by, refusal, accepted_or, Stepped, step}

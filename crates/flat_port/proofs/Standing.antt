@@ -1,5 +1,5 @@
 -- What a port in flat lists that is fit tells: what refusals, the advance and the verdict ask.
-use mathlib.Core.Path.{◌≡◌, refl, sym, ap, ◌∙◌}
+use mathlib.Core.Path.{◌≡◌, refl, sym, ◌∙◌}
 use mathlib.Core.Bool.{true}
 use mathlib.Core.List.{List, [], ◌∷◌}
 use Prim.Native.Nat.{ℕ, zero, suc, ◌+◌, ◌*◌, ◌≤◌, ◌<◌}
@@ -9,12 +9,11 @@ use lib.ListN.{length, get_or}
 use Rattle.model.specs.Basics.{entries, first_met, first_refusal}
 use Rattle.model.specs.Units.{last_tick, occupied, most_frames}
 use Rattle.model.specs.Table.{Table, size_of, table_refusal}
-use Rattle.model.specs.Machine.{Frame, Sender, queue_of, held as heldBytes, frames_held}
+use Rattle.model.specs.Machine.{Frame, Sender, queue_of, frames_held}
 use Rattle.model.specs.Port.{Port}
 use Rattle.model.specs.Fitness.{fit}
 use Rattle.model.specs.Report.{Report, report_checks, room_check, report_refusal}
 use Rattle.model.proofs.Checks.{all_true}
-use Rattle.model.proofs.Passing.{Passing}
 use Rattle.model.proofs.Refusals.{refusal_fit}
 use Rattle.model.proofs.Lined.{lined_count}
 use Rattle.model.proofs.Fitness.{FitPort, fit_is}
@@ -22,9 +21,8 @@ use Rattle.port_scheduler.specs.View.{view_sender}
 use Rattle.port_scheduler.proofs.Sums.{frames_few}
 use Rattle.port_scheduler.proofs.Progress.{everywhere}
 use Rattle.port_refusals.specs.Reports.{Clocked}
-use Rattle.flat_queues.specs.View.{rings_of}
 use Rattle.flat_queues.proofs.Rounds.{length_rings}
-use Rattle.flat_scheduler.specs.Promised.{Flat, Holds, Ready}
+use Rattle.flat_scheduler.specs.Promised.{Ready}
 use Rattle.flat_scheduler.proofs.Rings.{ring_count}
 use Rattle.flat_scheduler.proofs.Callers.{fit_ready}
 use Rattle.flat_port.specs.declared.State.{State}

@@ -4,12 +4,11 @@ use mathlib.Core.Logic.{⊎_elim}
 use mathlib.Core.Bool.{Bool, true, false}
 use mathlib.Core.Option.{some}
 use mathlib.Core.List.{List}
-use Prim.Native.Nat.{ℕ, ◌+◌, ◌*◌, ◌≤◌, ◌<◌}
+use Prim.Native.Nat.{ℕ, ◌+◌, ◌*◌, ◌<◌}
 use native.Mathlib.Omega.{arith}
 use lib.ListN.{length, get_or, set}
 use Rattle.model.specs.Link.{VirtualLink, bag_of, bag, link_at, place_of}
 use Rattle.model.specs.Table.{Table, size_of}
-use Rattle.model.specs.Machine.{Frame}
 use Rattle.model.specs.Port.{Port}
 use Rattle.model.specs.Report.{frame, Judged, admitted, judge_report, arrived}
 use Rattle.table_lookup.specs.declared.Place.{Place}

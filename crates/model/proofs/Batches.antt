@@ -1,19 +1,17 @@
 -- Batches: a batch is the single calls in that order; how far a batch is; what each report writes of the list that it is lent.
 use mathlib.Core.Path.{◌≡◌, refl, sym, ◌∙◌}
-use mathlib.Core.Bool.{Bool, true, false}
 use mathlib.Core.List.{List, [], ◌∷◌, ◌++◌, append-nil, append_assoc, flat_map}
-use Prim.Native.Nat.{ℕ, zero, suc, ◌+◌, ◌-◌, ◌*◌, ◌≤◌, ◌<◌}
+use Prim.Native.Nat.{ℕ, zero, suc, ◌+◌, ◌*◌}
 use native.Mathlib.Omega.{arith}
 use lib.Dec.{ltb}
 use lib.ListN.{length, take, drop, length-append}
 use lib.Seq.{take_at, drop_at, drop-drop}
 use Rattle.model.specs.Table.{Table}
-use Rattle.model.specs.Bounds.{bounds_refusal}
 use Rattle.model.specs.Machine.{Departure, frames_held, advance}
-use Rattle.model.specs.Port.{Port, fresh}
+use Rattle.model.specs.Port.{Port}
 use Rattle.model.specs.Report.{Report, tick_of, Call, Stepped, step, accepted_or, all_checks, report_refusal, listed, three_numbers}
-use Rattle.model.specs.Run.{Entry, History, run, Demand3}
-use Rattle.model.specs.Batch.{Batched, batch, departure_numbers, frames_freed, over, Turn, single, several, logged, turn, run_turns}
+use Rattle.model.specs.Run.{Entry, run}
+use Rattle.model.specs.Batch.{Batched, batch, departure_numbers, frames_freed, over, single, several, logged, turn, run_turns}
 use Rattle.model.specs.Promises.{TurnsAreRuns, DemandThreeOfTurns}
 use Rattle.model.proofs.Lists.{length-flat_map}
 use Rattle.model.proofs.Demand as Demand

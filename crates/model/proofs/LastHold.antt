@@ -4,7 +4,7 @@ use mathlib.Core.Logic.{◌⊎◌, inl, inr}
 use mathlib.Core.Bool.{Bool, true, false, ◌&&◌}
 use mathlib.Core.Option.{Option, none, some}
 use mathlib.Core.List.{List, [], ◌∷◌, Memᴰ}
-use Prim.Native.Nat.{ℕ, zero, suc, ◌+◌, ◌-◌, ◌*◌, ◌/◌, ◌≤◌, ◌<◌, max}
+use Prim.Native.Nat.{ℕ, ◌+◌, ◌-◌, ◌*◌, ◌≤◌, ◌<◌, max}
 use native.Mathlib.Nat.{le_refl, le_trans, mul-le-mul, mul-le-mul_left, div-lt_iff_lt-mul}
 use native.Mathlib.Decide.{dec_le}
 use native.Mathlib.Omega.{arith}
@@ -12,7 +12,7 @@ use lib.Dec.{eqb, leb, ltb}
 use lib.ListN.{length}
 use borrow.Author.Tests.{le-leb, lt-leb, lt-ltb, le-ltb}
 use Rattle.model.specs.Basics.{provided, sum_to}
-use Rattle.model.specs.Link.{VirtualLink, bag, any_of, sum_over, greatest_over}
+use Rattle.model.specs.Link.{VirtualLink, any_of, sum_over, greatest_over}
 use Rattle.model.specs.Arrival.{frame_curve, on_line, line_curve, arrival_curve}
 use Rattle.model.specs.Table.{Table, table_refusal}
 use Rattle.model.specs.Bounds.{up_to, beyond, up_arrivals, blocking, hold_of, is_there, bounds_refusal, or_zero, hold}
@@ -23,7 +23,7 @@ use Rattle.model.proofs.Grouping.{sum_to_add, sum_to_one_most}
 use Rattle.model.proofs.TableFacts.{FieldsFit, links_unmet}
 use Rattle.model.proofs.Passing.{members_pass}
 use Rattle.model.proofs.Covering.{frame_some}
-use Rattle.model.proofs.Holds.{hold_is, hold_smallest, there_is, HasBounds, has_bounds, all_holds, has_or_lacks}
+use Rattle.model.proofs.Holds.{hold_is, hold_smallest, there_is, has_bounds, all_holds, has_or_lacks}
 use Rattle.model.proofs.Reserving.{sent_most}
 
 -- ---- a curve is at most what its links send: each has one line at most

@@ -4,24 +4,24 @@ use mathlib.Core.Logic.{◌⊎◌, inl, inr}
 use mathlib.Core.Bool.{Bool, true, false, not}
 use mathlib.Core.Option.{Option, none, some}
 use mathlib.Core.List.{List, [], ◌∷◌, ◌++◌, append-nil, append_assoc}
-use Prim.Native.Nat.{ℕ, zero, suc, ◌+◌, ◌≤◌, ◌<◌}
+use Prim.Native.Nat.{ℕ, zero, suc, ◌≤◌, ◌<◌}
 use native.Mathlib.Nat.{le_refl, le_trans}
 use native.Mathlib.Decide.{dec_le}
 use native.Mathlib.Omega.{arith}
 use lib.Dec.{eqb, leb}
 use lib.ListN.{length, length-append}
-use borrow.Author.Tests.{eqb-true, eq-eqb, ne_eqb, leb-true, leb-false, le-leb, lt-leb}
+use borrow.Author.Tests.{eqb-true, eq-eqb, leb-true, leb-false, le-leb, lt-leb}
 use Rattle.model.specs.Basics.{check, first_met, first_refusal}
 use Rattle.model.specs.Units.{line_capacity}
 use Rattle.model.specs.Link.{VirtualLink, sum_over}
 use Rattle.model.specs.Table.{Table, counts_in_range, not_above, links_checks, reservation, reserved_on, none_oversold, table_refusal}
 use Rattle.model.specs.Bounds.{bounds_refusal}
 use Rattle.model.specs.OverloadCore.{with_links, lacks_bounds, remaining, core_links, core_refusal, core_or, core}
-use Rattle.model.specs.Promises.{Grown, over, edited, added, Selection, taken, left, Handful, CoreBreaks, CoreAnswered}
+use Rattle.model.specs.Promises.{Grown, over, edited, added, Selection, taken, left, CoreBreaks, CoreAnswered}
 use Rattle.model.proofs.Checks.{NoneMet, true_all, all_to_lem, to_all}
 use Rattle.model.proofs.TableFacts.{links_unmet, sizes_unmet, parts_unmet}
-use Rattle.model.proofs.Passing.{Passing, is_passing}
-use Rattle.model.proofs.Holds.{has_or_lacks, lacks_passes, has_bounds, table_never}
+use Rattle.model.proofs.Passing.{is_passing}
+use Rattle.model.proofs.Holds.{has_or_lacks, lacks_passes, has_bounds}
 use Rattle.model.proofs.Sensitivity.{bounds_kept}
 use Rattle.model.proofs.JitterMargin.{same}
 use Rattle.model.proofs.LastHold.{few_have_bounds}

@@ -1,6 +1,5 @@
 pub mod Whole
 pub mod Counted
-pub mod Element
 pub mod Refused
 pub mod Moved
 pub mod Stored

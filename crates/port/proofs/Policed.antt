@@ -3,12 +3,12 @@ use mathlib.Core.Path.{◌≡◌, refl, sym, ap, ◌∙◌}
 use mathlib.Core.Bool.{Bool, true, false}
 use mathlib.Core.Option.{some}
 use mathlib.Core.List.{List, map}
-use Prim.Native.Nat.{ℕ, ◌≤◌, ◌<◌}
+use Prim.Native.Nat.{ℕ, ◌<◌}
 use native.Mathlib.Omega.{arith}
 use lib.ListN.{get_or, set, drop, length-map, get_or-map}
 use lib.Seq.{drop-set-lt}
 use Rattle.model.specs.Basics.{entries}
-use Rattle.model.specs.Link.{VirtualLink, bag}
+use Rattle.model.specs.Link.{bag}
 use Rattle.model.specs.Port.{Account, blank_account, account_at, with_gate}
 use Rattle.model.specs.Report.{Policed, police_at, has_room, store, passed_if, judge, arrived}
 use Rattle.model.proofs.Entries.{get_d_entries}

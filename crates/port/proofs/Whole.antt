@@ -1,14 +1,11 @@
 -- The arrays of a port record that the code holds have their lengths.
-use mathlib.Core.Path.{◌≡◌, sym, ◌∙◌}
+use mathlib.Core.Path.{◌≡◌}
 use mathlib.Core.List.{List}
-use lib.ListN.{length, length-map}
+use lib.ListN.{length}
 use mir.Val.{Val}
 use denote.Laws.{Is}
 use denote.Struct.Declared.{row}
-use denote.Struct.Field.{u64-field}
 use Rattle.table.proofs.Shape.{Sized, sized}
-use Rattle.port_scheduler.specs.contracts.Queue.{the_field as queue-field}
-use Rattle.port_policing.specs.contracts.Account.{the_field as account-field}
 use Rattle.port.specs.declared.Port.{Port as PortRecord}
 use Rattle.port.specs.contracts.Port.{the_type}
 
@@ -24,8 +21,8 @@ whole p vs s =
     let gate = s.1.1.1.1.1.1.0 in
     record {
       table = sized p.table _ s.1.1.0;
-      queues = sym (length-map p.queues queue-field.into) ∙ s.1.1.1.1.0.1.0.1;
-      lines = sym (length-map p.gate.line_ticks u64-field.into) ∙ gate.1.1.0.1.0.1;
-      accounts = sym (length-map p.gate.accounts account-field.into) ∙ gate.1.1.1.0.1.0.1;
-      counts = sym (length-map p.counts u64-field.into) ∙ s.1.1.1.1.1.1.1.0.1.0.1;
+      queues = s.1.1.1.1.0.1.0.1;
+      lines = gate.1.1.0.1.0.1;
+      accounts = gate.1.1.1.0.1.0.1;
+      counts = s.1.1.1.1.1.1.1.0.1.0.1;
     }

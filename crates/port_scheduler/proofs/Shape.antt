@@ -1,14 +1,13 @@
 -- The arrays of a value that the code holds have their lengths: from what owning the value tells.
-use mathlib.Core.Path.{◌≡◌, sym, ◌∙◌}
+use mathlib.Core.Path.{◌≡◌}
 use mathlib.Core.List.{List}
-use lib.ListN.{length, length-map}
+use lib.ListN.{length}
 use mir.Val.{Val}
 use denote.Laws.{Is}
 use denote.Array.{Array}
 use denote.Struct.Declared.{row}
 use Rattle.model.specs.Units.{most_frames}
 use Rattle.port_scheduler.specs.declared.Queue.{Queue}
-use Rattle.port_scheduler.specs.contracts.Frame.{the_field as frame-field}
 use Rattle.port_scheduler.specs.contracts.Queue.{the_type}
 
 pub queue_whole : (q : Queue) (vs : List Val) → Is (row the_type) q vs → length q.frames ≡ most_frames

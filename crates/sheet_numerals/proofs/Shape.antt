@@ -1,14 +1,13 @@
 -- The array of a text has its length, and a 32-bit number its limit.
-use mathlib.Core.Path.{◌≡◌, sym, ◌∙◌}
+use mathlib.Core.Path.{◌≡◌}
 use mathlib.Core.List.{List}
 use Prim.Native.Nat.{ℕ, ◌≤◌}
 use native.Mathlib.Omega.{arith}
-use lib.ListN.{length, length-map}
+use lib.ListN.{length}
 use mir.Syntax.{w32}
 use mir.Val.{Val, Fits}
 use denote.Laws.{Is}
 use denote.Struct.Declared.{row}
-use denote.Struct.Field.{u8-field}
 use Rattle.sheet_numerals.specs.declared.Text.{Text}
 use Rattle.sheet_numerals.specs.Fixed.{text_room}
 use Rattle.sheet_numerals.specs.contracts.Text.{the_type}

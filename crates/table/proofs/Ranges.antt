@@ -5,11 +5,11 @@ use mathlib.Core.List.{List, [], ◌∷◌}
 use Prim.Native.Nat.{ℕ, zero, suc, ◌+◌, ◌≤◌, ◌<◌}
 use native.Mathlib.Numerals.{add-one}
 use native.Mathlib.Omega.{arith}
-use lib.Dec.{eqb, leb, ltb}
+use lib.Dec.{eqb, leb}
 use borrow.Author.Tests.{le-leb, lt-leb, lt-ltb, le-ltb}
 use lib.ListN.{length, get_or, take}
 use lib.Seq.{take_all}
-use Rattle.model.specs.Basics.{all_hold, Check, first_met}
+use Rattle.model.specs.Basics.{all_hold, first_met}
 use Rattle.model.specs.Units.{least_length, greatest_length}
 use Rattle.model.specs.Link.{VirtualLink}
 use Rattle.model.specs.Table.{counts_in_range, fields_in_range, all_at_most, size_checks}

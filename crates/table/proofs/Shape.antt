@@ -1,20 +1,17 @@
 -- The arrays of a table record have their lengths, and the view goes by their entries.
-use mathlib.Core.Path.{◌≡◌, refl, sym, ap, ◌∙◌}
-use mathlib.Core.List.{List, [], ◌∷◌, map}
+use mathlib.Core.Path.{◌≡◌, refl, ◌∙◌}
+use mathlib.Core.List.{List, [], ◌∷◌}
 use Prim.Native.Nat.{ℕ, zero, suc, ◌≤◌, ◌<◌}
 use native.Mathlib.Omega.{arith}
-use lib.ListN.{length, get_or, length-map}
+use lib.ListN.{length, get_or}
 use mir.Val.{Val}
 use denote.Laws.{Is}
 use denote.Struct.Declared.{row}
-use denote.Struct.Field.{u16-field, u32-field}
-use Rattle.model.specs.Basics.{entries}
 use Rattle.model.specs.Link.{blank_link}
 use Rattle.model.proofs.Entries.{length_entries, get_d_entries}
 use Rattle.table.specs.declared.VirtualLink.{VirtualLink as LinkFields}
 use Rattle.table.specs.declared.Table.{Table as TableRecord}
 use Rattle.table.specs.View.{view_link, blank_fields, paired, view_links}
-use Rattle.table.specs.contracts.VirtualLink.{the_field as link-field}
 use Rattle.table.specs.contracts.Table.{the_type}
 
 pub record Sized (t : TableRecord) : Type 0 where

@@ -2,5 +2,4 @@ pub mod Answers
 pub mod ReadSteps
 pub mod Taken
 pub mod Turns
-pub mod Rows
 pub mod Back

@@ -4,8 +4,6 @@ use mathlib.Core.List.{List, [], ◌∷◌}
 use Prim.Native.Nat.{ℕ, zero, suc, ◌-◌, ◌≤◌, ◌<◌}
 use native.Mathlib.Omega.{arith}
 use borrow.Author.Tests.{eq-eqb, ne_eqb, lt-ltb, le-ltb, lt-leb, le-leb}
-use types.Run.{OneOf, miss}
-use denote.Enum.Declared.{tag_of}
 use Rattle.model.specs.Basics.{first_met}
 use Rattle.model.specs.Table.{line_checks}
 use Rattle.table.specs.declared.VirtualLink.{VirtualLink as LinkFields}
@@ -15,7 +13,6 @@ use Rattle.table_file.specs.declared.Reading.{Reading as ReadingRecord}
 use Rattle.table_file.specs.declared.steps.Step.{Step}
 use Rattle.table_record_reader.specs.Records.{said}
 use Rattle.table_file.specs.Steps.{stop_step, counts_step, link_step, step_after, no_table, sizes_after, links_held, sold_or, ended_after}
-use Rattle.table_record_reader.specs.contracts.Record.{the_type}
 
 -- ---- which step it is
 module _ (x : Record) (read : ℕ) (before : Step) where
@@ -37,9 +34,9 @@ pub counts_in : (x : Record) (lines n : ℕ) (before : Step) → x ≡ Counts li
 unfolding counts_step
 counts_in x lines n before e = rw e
 
-pub counts_else : (x : Record) (m : ℕ) (before : Step) → OneOf (1 ∷ 2 ∷ 3 ∷ []) (tag_of the_type x) → m ≡ (said x).refused → counts_step x before ≡ stop_step m 0 before
+pub counts_else : (x : Record) (m : ℕ) (before : Step) → ((lines n : ℕ) → x ≡ Counts lines n → ⊥) → m ≡ (said x).refused → counts_step x before ≡ stop_step m 0 before
 unfolding counts_step
-counts_else (Counts lines n) m before o e = absurd (miss (1 ∷ 2 ∷ 3 ∷ []) 0 tt o)
+counts_else (Counts lines n) m before o e = absurd (o lines n refl)
 counts_else (Link number v) m before o e = rw e
 counts_else (Sizes a b c d f g h i) m before o e = rw e
 counts_else (Refused n) m before o e = rw e
@@ -49,10 +46,10 @@ pub link_in : (x : Record) (number : ℕ) (v : LinkFields) (read : ℕ) (before 
 unfolding link_step
 link_in x number v read before e = rw e
 
-pub link_else : (x : Record) (m read : ℕ) (before : Step) → OneOf (0 ∷ 2 ∷ 3 ∷ []) (tag_of the_type x) → m ≡ (said x).refused → link_step x read before ≡ stop_step m read before
+pub link_else : (x : Record) (m read : ℕ) (before : Step) → ((number : ℕ) (v : LinkFields) → x ≡ Link number v → ⊥) → m ≡ (said x).refused → link_step x read before ≡ stop_step m read before
 unfolding link_step
 link_else (Counts lines n) m read before o e = rw e
-link_else (Link number v) m read before o e = absurd (miss (0 ∷ 2 ∷ 3 ∷ []) 1 tt o)
+link_else (Link number v) m read before o e = absurd (o number v refl)
 link_else (Sizes a b c d f g h i) m read before o e = rw e
 link_else (Refused n) m read before o e = rw e
 
@@ -92,10 +89,10 @@ module _ (step : Step) (numbers : List ℕ) (links : List LinkFields) (x : Recor
   unfolding sizes_after
   sizes_in a b c d f g h i e = rw e
 
-pub sizes_else : (step : Step) (numbers : List ℕ) (links : List LinkFields) (x : Record) → OneOf (0 ∷ 1 ∷ 3 ∷ []) (tag_of the_type x)
+pub sizes_else : (step : Step) (numbers : List ℕ) (links : List LinkFields) (x : Record) → ((a b c d f g h i : ℕ) → x ≡ Sizes a b c d f g h i → ⊥)
     → no_table step.refused ≡ sizes_after x step numbers links
 unfolding sizes_after
 sizes_else step numbers links (Counts lines n) o = refl
 sizes_else step numbers links (Link number v) o = refl
-sizes_else step numbers links (Sizes a b c d f g h i) o = absurd (miss (0 ∷ 1 ∷ 3 ∷ []) 2 tt o)
+sizes_else step numbers links (Sizes a b c d f g h i) o = absurd (o a b c d f g h i refl)
 sizes_else step numbers links (Refused n) o = refl

@@ -133,9 +133,6 @@ module _ (file rest : List ℕ) (read : ℕ) (step : Step) (numbers : List ℕ) 
     later_goes false t left m n = let h = ltb-false step.count read t in link_goes h (p ∙ step_link x read step z h) left m x refl n
 
 -- ---- a turn
-pub begins : (file : List ℕ) (step : Step) → step ≡ first_step → Turn 258 file file 0 step (replicate 256 0) (replicate 256 step.link)
-begins file step e = record { turns = refl; held = (refl, (e, (refl, ap (λ (s : Step). replicate 256 s.link) e))) }
-
 pub stops : (left : ℕ) (file rest : List ℕ) (read : ℕ) (step : Step) (numbers : List ℕ) (links : List LinkFields) → Turn left file rest read step numbers links
     → (x : Record) → said x ≡ due_at rest read step.count step.lines step.number → (next : Step) → next ≡ step_after x read step
     → (a : ReadingRecord) → next.taken ≡ 0 → a ≡ ended_after x next numbers links → a ≡ record_reading (read_table file)
@@ -156,3 +153,13 @@ goes left file rest zero step numbers links t x e next p z =
     (subst (λ (ls : List LinkFields). Gone 258 file file 0 next (replicate 256 0) ls) (sym t.held.1.1.1)
     (first_goes file x next due (p ∙ step_counts x 0 step refl ∙ ap (counts_step x) t.held.1.0) x refl z))))
 goes left file rest (suc k) step numbers links t x e next p z = later_goes file rest (suc k) step numbers links t.held x e next (λ q. omega arith) p (ltb step.count (suc k)) refl left t.turns z
+
+-- the next turn, from what is left of the file and the number of records read
+pub turned : (left : ℕ) (file rest : List ℕ) (read : ℕ) (next : Step) (numbers : List ℕ) (links : List LinkFields) (g : Gone left file rest read next numbers links)
+    → (rest' : List ℕ) (read' : ℕ) → rest' ≡ drop next.taken rest → read' ≡ read + 1
+    → Turn (258 - read') file rest' read' next (set numbers next.at next.number) (set links next.at next.link)
+turned left file rest read next numbers links g rest' read' e f =
+    let after_is : g.after ≡ 258 - read' = omega (arith, g.again.turns) in
+    subst (λ (k : ℕ). Turn k file rest' read' next (set numbers next.at next.number) (set links next.at next.link)) after_is
+    (subst (λ (r : List ℕ). Turn g.after file r read' next (set numbers next.at next.number) (set links next.at next.link)) (sym e)
+    (subst (λ (k : ℕ). Turn g.after file (drop next.taken rest) k next (set numbers next.at next.number) (set links next.at next.link)) (sym f) g.again))

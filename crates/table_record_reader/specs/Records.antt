@@ -1,6 +1,6 @@
 -- What the record reader answers, in the paper's numbers.
 use Rattle.std.specs.Prelude.{cond, List, [], ◌∷◌, ℕ, zero, suc, ◌-◌, eqb, leb}
-use Rattle.std.proofs.Math.Option.{Option, none}
+use Rattle.std.proofs.Math.Option.{Option}
 use Rattle.model.specs.Basics.{first_met}
 use Rattle.model.specs.Link.{VirtualLink}
 use Rattle.model.specs.TableFile.{number_at, link_read, sizes_read, count_record_checks, link_record_checks, sizes_record_checks}

@@ -4,7 +4,6 @@ use Rattle.table.specs.View.{view_links}
 use Rattle.table.proofs.PassingRecord.{counts_pass}
 use Rattle.bounds_arrivals.specs.Loads.{between, less}
 use Rattle.bounds_arrivals.proofs.Loading.{tops_few, flow_is}
-use borrow.Author.Rules.{rules}
 use Rattle.bounds_arrivals.proofs.arrivals.Goals as goal
 
 pub total-requires : goal.total-requires

@@ -1,6 +1,5 @@
 use native.Mathlib.Omega.{arith}
 use Rattle.bounds_arrivals.proofs.Fitting.{quotient_fits, frames_few, frames_are}
-use borrow.Author.Rules.{rules}
 use Rattle.bounds_arrivals.proofs.frames.Goals as goal
 
 pub overflow_shr-result : goal.overflow_shr-result
@@ -10,8 +9,7 @@ pub overflow_add-result-2 : goal.overflow_add-result-2
 overflow_add-result-2 c = record { fits = quotient_fits _ _ _ (omega (arith, c.requires.1, c.requires.2)) }
 
 pub returns : goal.returns
-returns c =
-    (
-      frames_are c.args.l c.requires.0 c.args.w c.u32_as_u64.result c.u32_as_u64.ensures.0,
-      omega (arith, frames_few c.args.l c.requires.0 c.args.w c.u32_as_u64.result c.u32_as_u64.ensures.0 c.requires.1 c.requires.2),
-    )
+returns c = (
+  frames_are c.args.l c.requires.0 c.args.w c.u32_as_u64.result c.u32_as_u64.ensures.0,
+  omega (arith, frames_few c.args.l c.requires.0 c.args.w c.u32_as_u64.result c.u32_as_u64.ensures.0 c.requires.1 c.requires.2),
+)

@@ -1,20 +1,18 @@
-use mathlib.Core.Path.{◌≡◌, sym, ◌∙◌}
-use mathlib.Core.Logic.{⊎_elim}
-use Prim.Native.Nat.{◌-◌, ◌≤◌}
-use borrow.Author.Rules.{rules}
+use mathlib.Core.Path.{sym, ◌∙◌}
+use Prim.Native.Nat.{◌≤◌}
 use native.Mathlib.Omega.{arith}
-use lib.ListN.{take}
 use Rattle.table.specs.View.{view_links}
 use Rattle.table.proofs.PassingRecord.{counts_pass, entry_fits}
-use Rattle.bounds_arrivals.specs.Loads.{between, less, Loaded}
+use Rattle.bounds_arrivals.specs.Loads.{between, less}
 use Rattle.bounds_arrivals.proofs.Fitting.{product_few, line_in}
 use Rattle.bounds_arrivals.proofs.Loading.{loads_of, load_none, load_skip, load_step, sum_fits, load_all}
 use Rattle.bounds_arrivals.proofs.loads_of.Goals as goal
+use Rattle.bounds_arrivals.proofs.loads_of.Goals.{then-member, else-member}
 
 pub loop-i-init : goal.loop-i-init
 loop-i-init c =
     let a = c.args in
-    (omega arith, c.u16_as_usize-count.ensures.0, load_none (less a.cut) (between a.low a.high) (view_links a.t1) a.w)
+    (omega arith, c.u16_as_usize-count.ensures.0, load_none (less a.cut) (between a.low a.high) (view_links a.t) a.w)
 
 pub offset_bounds-t-i : goal.offset_bounds-t-i
 offset_bounds-t-i c = omega arith
@@ -77,21 +75,21 @@ loop-i-smaller c = omega arith
 pub loop-i-preserved : goal.loop-i-preserved
 loop-i-preserved c =
     let e = c.member.ensures in
-    ⊎_elim
-    (λ y. (
-      omega arith,
-      c.loop-i.invariant.1,
-      rw (y.6, y.7)
-          (load_step c.args.t c.requires.0 c.args.low c.args.high c.args.cut c.args.w c.loop-i.sums c.loop-i.tops c.loop-i.i (omega arith) c.loop-i.invariant.2
-          (sym y.0.taken ∙ e) y.3.result y.4.result y.5.result (rw y.2.ensures.0 at y.3.ensures) y.4.ensures.0 y.5.ensures),
-    ))
-    (λ n. (
-      omega arith,
-      c.loop-i.invariant.1,
-      rw (n.1, n.2)
-          (load_skip c.args.t c.requires.0 c.args.low c.args.high c.args.cut c.args.w c.loop-i.sums c.loop-i.tops c.loop-i.i (omega arith) c.loop-i.invariant.2 (sym n.0.left ∙ e)),
-    ))
-    c.if-member.branch
+    elim c.if-member.branch [
+      | then-member w ↦ (
+        omega arith,
+        c.loop-i.invariant.1,
+        rw (w.sums-is, w.tops-is)
+            (load_step c.args.t c.requires.0 c.args.low c.args.high c.args.cut c.args.w c.loop-i.sums c.loop-i.tops c.loop-i.i (omega arith) c.loop-i.invariant.2
+            (sym w.if-member.true ∙ e) w.excess-kept.result w.frames.result w.larger.result (rw w.u16_as_u64-wire.ensures.0 at w.excess-kept.ensures) w.frames.ensures.0 w.larger.ensures),
+      )
+      | else-member w ↦ (
+        omega arith,
+        c.loop-i.invariant.1,
+        rw (w.sums-is, w.tops-is)
+            (load_skip c.args.t c.requires.0 c.args.low c.args.high c.args.cut c.args.w c.loop-i.sums c.loop-i.tops c.loop-i.i (omega arith) c.loop-i.invariant.2 (sym w.if-member.false ∙ e)),
+      )
+    ]
 
 pub returns : goal.returns
 returns c = load_all c.args.t c.requires.0 (between c.args.low c.args.high) c.args.cut c.args.w c.requires.1 (loads_of c.loop-i.sums c.loop-i.tops) c.loop-i.i (omega arith) c.loop-i.invariant.2

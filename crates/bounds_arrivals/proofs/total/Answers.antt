@@ -1,8 +1,5 @@
 use mathlib.Core.Path.{◌≡◌}
-use Prim.Native.Nat.{◌-◌, ◌*◌, ◌≤◌}
-use borrow.Author.Rules.{rules}
 use native.Mathlib.Omega.{arith}
-use Rattle.bounds_arrivals.specs.Loads.{flow}
 use Rattle.bounds_arrivals.proofs.Loading.{flow_none, flow_more}
 use Rattle.bounds_arrivals.proofs.total.Goals as goal
 

@@ -13,9 +13,6 @@
 -- src/lib.rt:21:1
 use native.Mathlib.Omega.{arith}
 use Rattle.flat_queues.proofs.Rounds.{popped}
-use borrow.Author.Rules.{rules}
-use Rattle.flat_queues.proofs.pop.Reads as reads
-use Rattle.flat_queues.proofs.pop.Lts as lts
 use Rattle.flat_queues.proofs.pop.Goals as goal
 
 pub returns : goal.returns

@@ -12,11 +12,6 @@
 -- src/lib.rt:40:1
 -- src/lib.rt:40:1
 use Rattle.flat_queues.proofs.Rounds.{pushed}
-use borrow.Author.Rules.{rules}
-use Rattle.flat_queues.proofs.push.Reads as reads
-use Rattle.flat_queues.proofs.push.Lts as lts
-use Rattle.flat_queues.proofs.put.Reads as put_reads
-use Rattle.flat_queues.proofs.slot.Reads as slot-reads
 use Rattle.flat_queues.proofs.push.Goals as goal
 
 pub returns : goal.returns

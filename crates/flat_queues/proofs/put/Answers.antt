@@ -8,12 +8,8 @@
 -- src/lib.rt:36:5
 -- src/lib.rt:30:1
 -- src/lib.rt:30:1
-use mathlib.Core.Path.{refl}
 use native.Mathlib.Omega.{arith}
 use lib.ListN.{length-set}
-use borrow.Author.Rules.{rules}
-use Rattle.flat_queues.proofs.put.Reads as reads
-use Rattle.flat_queues.proofs.put.Lts as lts
 use Rattle.flat_queues.proofs.put.Goals as goal
 
 pub bounds-list-k-2 : goal.bounds-list-k-2

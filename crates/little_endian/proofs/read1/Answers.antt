@@ -1,4 +1,3 @@
-use borrow.Author.Rules.{rules}
 use native.Mathlib.Omega.{arith}
 use Rattle.little_endian.proofs.Numbers.{none_read, one_read}
 use Rattle.little_endian.proofs.read1.Goals as goal

@@ -1,4 +1,3 @@
-use borrow.Author.Rules.{rules}
 use native.Mathlib.Omega.{arith}
 use Rattle.little_endian.proofs.Numbers.{none_read, parts_read}
 use Rattle.little_endian.proofs.read2.Goals as goal

@@ -1,4 +1,3 @@
-use borrow.Author.Rules.{rules}
 use native.Mathlib.Omega.{arith}
 use Rattle.little_endian.proofs.Numbers.{one_laid}
 use Rattle.little_endian.proofs.write1.Goals as goal

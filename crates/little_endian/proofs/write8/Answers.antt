@@ -1,4 +1,3 @@
-use borrow.Author.Rules.{rules}
 use native.Mathlib.Omega.{arith}
 use Rattle.little_endian.proofs.Numbers.{parts_laid}
 use Rattle.little_endian.proofs.write8.Goals as goal

@@ -1,12 +1,9 @@
-use borrow.Author.Rules.{rules}
-use mathlib.Core.Path.{◌≡◌, ◌∙◌}
-use Prim.Native.Nat.{◌-◌, ◌≤◌}
+use mathlib.Core.Path.{◌∙◌}
+use Prim.Native.Nat.{◌≤◌}
 use native.Mathlib.Omega.{arith}
-use lib.ListN.{take}
 use Rattle.model.proofs.Bags.{bag_most}
-use Rattle.table.specs.View.{view_links}
 use Rattle.table.proofs.Shape.{sized}
-use Rattle.port_policing.proofs.Full.{accounts_of, none_yet, next_account, all_accounts}
+use Rattle.port_policing.proofs.Full.{none_yet, next_account, all_accounts}
 use Rattle.port_policing.proofs.full_accounts.Goals as goal
 
 pub loop-i-init : goal.loop-i-init

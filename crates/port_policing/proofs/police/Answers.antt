@@ -1,5 +1,4 @@
 -- The two outcomes of the police check.
-use borrow.Author.Rules.{rules}
 use native.Mathlib.Omega.{arith}
 use Rattle.port_policing.proofs.Bucket.{is_policed, passes}
 use Rattle.port_policing.proofs.police.Goals as goal

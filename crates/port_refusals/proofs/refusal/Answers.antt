@@ -1,7 +1,6 @@
 use native.Mathlib.Omega.{arith}
 use Rattle.port_refusals.specs.Reports.{view_report}
 use Rattle.port_refusals.proofs.Refused.{too_late, too_early, timely}
-use borrow.Author.Rules.{rules}
 use Rattle.port_refusals.proofs.refusal.Goals as goal
 
 pub returns-then-time-gt-LAST_TICK : goal.returns-then-time-gt-LAST_TICK

@@ -1,4 +1,3 @@
-use borrow.Author.Rules.{rules}
 use Rattle.model.specs.Report.{tick_of}
 use Rattle.port_refusals.proofs.tick_of.Goals as goal
 

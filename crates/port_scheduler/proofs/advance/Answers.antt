@@ -1,15 +1,11 @@
-use borrow.Author.Rules.{rules}
-use mathlib.Core.Path.{◌≡◌, sym, ap, ◌∙◌}
+use mathlib.Core.Path.{sym, ap, ◌∙◌}
 use native.Mathlib.Omega.{arith}
-use lib.ListN.{get_or}
-use Rattle.model.specs.Machine.{Frame, head_of, frames_held}
-use Rattle.port_scheduler.specs.View.{view_frame, blank_entry, blank_queue, view_queues, view_marks, view_sender}
-use Rattle.port_scheduler.specs.Promised.{advance_from}
-use Rattle.port_scheduler.specs.Sending.{UnderWay}
+use Rattle.model.specs.Machine.{Frame}
+use Rattle.port_scheduler.specs.View.{view_sender}
 use Rattle.port_scheduler.proofs.Shape.{queues_eight}
 use Rattle.port_scheduler.proofs.Shown.{queue_count, head_shown, gone_shown}
 use Rattle.port_scheduler.proofs.Progress.{few_gone, is_sending, has_room, fewer}
-use Rattle.port_scheduler.proofs.Moving.{Moving, starts_moving, ends_idle, ends_sending, one_moved}
+use Rattle.port_scheduler.proofs.Moving.{starts_moving, ends_idle, ends_sending, one_moved}
 use Rattle.port_scheduler.proofs.advance.Goals as goal
 
 pub loop-sender-init : goal.loop-sender-init

@@ -1,7 +1,6 @@
 -- The loop of the advance: what has left so far, and the tick machine's advance from here. The measure is the frames held.
 -- who sends
 -- the frame that the code reads is the head of its queue
-use mathlib.Core.Path.{◌≡◌, ◌∙◌}
 use Rattle.model.specs.Machine.{frames_held}
 use Rattle.port_scheduler.specs.View.{view_queues, view_marks}
 use Rattle.port_scheduler.specs.Promised.{advance_from}

@@ -1,9 +1,5 @@
-use mathlib.Core.Path.{◌≡◌, ◌∙◌}
-use Prim.Native.Nat.{◌-◌, ◌*◌, ◌≤◌}
+use mathlib.Core.Path.{◌∙◌}
 use native.Mathlib.Omega.{arith}
-use borrow.Author.Rules.{rules}
-use lib.ListN.{take}
-use Rattle.model.specs.Machine.{frames_held}
 use Rattle.port_scheduler.specs.View.{view_queues}
 use Rattle.port_scheduler.proofs.Shape.{queues_eight}
 use Rattle.port_scheduler.proofs.Sums.{frames_none, frames_more, frames_all}

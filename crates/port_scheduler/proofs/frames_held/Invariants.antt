@@ -1,5 +1,5 @@
 -- The sum is that of the queues before i.
-use mathlib.Core.Path.{◌≡◌, ◌∙◌}
+use mathlib.Core.Path.{◌≡◌}
 use Prim.Native.Nat.{◌-◌, ◌*◌, ◌≤◌}
 use lib.ListN.{take}
 use Rattle.model.specs.Machine.{frames_held}

@@ -1,10 +1,8 @@
-use mathlib.Core.Path.{◌≡◌, refl, ap, ◌∙◌}
-use Prim.Native.Nat.{◌-◌, ◌*◌, ◌≤◌}
+use mathlib.Core.Path.{refl, ap, ◌∙◌}
 use native.Mathlib.Omega.{arith}
-use borrow.Author.Rules.{rules}
 use Rattle.model.specs.Units.{occupied}
 use Rattle.port_scheduler.proofs.Shape.{queue_whole}
-use Rattle.port_scheduler.proofs.Sums.{bytes_before, bytes_none_lem, bytes_more, bytes_all}
+use Rattle.port_scheduler.proofs.Sums.{bytes_none_lem, bytes_more, bytes_all}
 use Rattle.port_scheduler.proofs.held.Goals as goal
 
 pub overflow_cast-n : goal.overflow_cast-n

@@ -1,5 +1,5 @@
 -- The sum is that of the frames before i.
-use mathlib.Core.Path.{◌≡◌, ◌∙◌}
+use mathlib.Core.Path.{◌≡◌}
 use Prim.Native.Nat.{◌-◌, ◌*◌, ◌≤◌}
 use Rattle.port_scheduler.proofs.Sums.{bytes_before}
 use Rattle.port_scheduler.proofs.held.Given as goal

@@ -1,7 +1,6 @@
 -- Three stores one after the other.
 use native.Mathlib.Omega.{arith}
 use lib.ListN.{length-set}
-use borrow.Author.Rules.{rules}
 use Rattle.port_scheduler.proofs.Departed.{three_set}
 use Rattle.port_scheduler.proofs.put.Goals as goal
 

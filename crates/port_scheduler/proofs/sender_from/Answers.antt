@@ -5,7 +5,6 @@ use Rattle.port_scheduler.specs.View.{view_queues, view_sender}
 use Rattle.port_scheduler.proofs.Shape.{queues_eight}
 use Rattle.port_scheduler.proofs.Shown.{length_shown}
 use Rattle.port_scheduler.proofs.Starts.{stays, time_over, starts}
-use borrow.Author.Rules.{rules}
 use Rattle.port_scheduler.proofs.sender_from.Goals as goal
 
 pub returns-in_default : goal.returns-in_default

@@ -1,9 +1,4 @@
-use mathlib.Core.Path.{◌≡◌}
-use Prim.Native.Nat.{ℕ, ◌-◌, ◌≤◌, ◌<◌}
 use native.Mathlib.Omega.{arith}
-use lib.ListN.{length}
-use Rattle.model.specs.Machine.{queue_of}
-use Rattle.port_scheduler.specs.View.{view_queues}
 use Rattle.port_scheduler.proofs.Shape.{queues_eight}
 use Rattle.port_scheduler.proofs.Starts.{none_more, starts_here, starts_none}
 use Rattle.port_scheduler.proofs.start_if_any.Goals as goal

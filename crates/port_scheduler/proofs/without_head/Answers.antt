@@ -1,9 +1,8 @@
-use mathlib.Core.Path.{◌≡◌, refl}
-use Prim.Native.Nat.{◌-◌, ◌≤◌}
+use mathlib.Core.Path.{refl}
 use native.Mathlib.Omega.{arith}
 use Rattle.port_scheduler.specs.View.{blank_entry}
 use Rattle.port_scheduler.proofs.Shape.{queue_whole}
-use Rattle.port_scheduler.proofs.Shift.{Shifted, shift_none, shift_more, head_gone}
+use Rattle.port_scheduler.proofs.Shift.{shift_none, shift_more, head_gone}
 use Rattle.port_scheduler.proofs.without_head.Goals as goal
 
 pub overflow_sub-last : goal.overflow_sub-last

@@ -1,8 +1,6 @@
 use mathlib.Core.Path.{◌≡◌}
-use Prim.Native.Nat.{◌+◌, ◌-◌, ◌≤◌}
 use native.Mathlib.Omega.{arith}
-use lib.ListN.{length, take, length-set}
-use Rattle.little_endian.specs.Output.{laid}
+use lib.ListN.{length, length-set}
 use Rattle.sheet_numerals.specs.Fixed.{text_room}
 use Rattle.sheet_numerals.proofs.Shape.{sized}
 use Rattle.sheet_numerals.proofs.Appended.{none_put, one_put, all_put}

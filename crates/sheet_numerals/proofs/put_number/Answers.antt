@@ -1,10 +1,6 @@
-use mathlib.Core.Path.{◌≡◌, refl}
-use mathlib.Core.List.{◌++◌}
-use Prim.Native.Nat.{◌+◌, ◌-◌, ◌≤◌}
+use mathlib.Core.Path.{refl}
 use native.Mathlib.Omega.{arith}
-use lib.ListN.{length, drop, length-set, length-append}
-use Rattle.model.specs.Sheet.{numeral}
-use Rattle.sheet_numerals.specs.Fixed.{ended}
+use lib.ListN.{length-set, length-append}
 use Rattle.sheet_numerals.proofs.Appended.{same_put}
 use Rattle.sheet_numerals.proofs.Digits.{length_most, length_least, length_last, more_stored, all_stored}
 use Rattle.sheet_numerals.proofs.put_number.Goals as goal
@@ -50,16 +46,16 @@ slice_bounds-put-count c = omega arith
 
 pub put-requires : goal.put-requires
 put-requires c =
-    let some = length_least c.??loop.higher in
+    let some = length_least c.loop-higher.higher in
     let whole =
-    all_stored _ c.??loop.digits c.??loop.first
-    c.??loop.higher c.??loop.invariant.3 21 (omega arith) (omega arith) (omega arith) (omega arith) in
+    all_stored _ c.loop-higher.digits c.loop-higher.first
+    c.loop-higher.higher c.loop-higher.invariant.3 21 (omega arith) (omega arith) (omega arith) (omega arith) in
     rw (whole, length-append) (omega arith)
 
 pub returns : goal.returns
 returns c =
-    let some = length_least c.??loop.higher in
+    let some = length_least c.loop-higher.higher in
     let whole =
-    all_stored _ c.??loop.digits c.??loop.first
-    c.??loop.higher c.??loop.invariant.3 21 (omega arith) (omega arith) (omega arith) (omega arith) in
+    all_stored _ c.loop-higher.digits c.loop-higher.first
+    c.loop-higher.higher c.loop-higher.invariant.3 21 (omega arith) (omega arith) (omega arith) (omega arith) in
     same_put c.put.ensures whole

@@ -9,7 +9,6 @@ use Rattle.sheet_numerals.specs.Fixed.{ended}
 use Rattle.sheet_numerals.proofs.Shape.{sized}
 use Rattle.sheet_numerals.proofs.Appended.{then_put, same_put}
 use Rattle.sheet_numerals.proofs.Signed.{castable, opposite_fits, opposite_read, opposite_printed, itself_read, itself_printed}
-use borrow.Author.Rules.{rules}
 use Rattle.sheet_numerals.proofs.put_signed.Goals as goal
 
 pub put-signed-requires : goal.put-signed-requires

@@ -1,6 +1,5 @@
 -- the promise comes first: what is needed on the way hangs on the cap, too
 use native.Mathlib.Omega.{arith}
-use borrow.Author.Rules.{rules}
 use Rattle.model.proofs.Bags.{power_few}
 use Rattle.table.proofs.Bags.{bag_shifted}
 use Rattle.table.proofs.bag.Goals as goal

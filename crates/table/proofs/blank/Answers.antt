@@ -1,4 +1,3 @@
-use borrow.Author.Rules.{rules}
 use Rattle.table.proofs.Shown.{blank_made}
 use Rattle.table.proofs.blank.Goals as goal
 

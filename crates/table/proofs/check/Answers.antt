@@ -1,5 +1,3 @@
-use borrow.Author.Rules.{rules}
-use borrow.Author.Tests.{not-true, not-false}
 use mathlib.Core.Path.{sym, ◌∙◌}
 use Rattle.table.proofs.Links.{counts_refused, links_refused, sizes_decide}
 use Rattle.table.proofs.check.Goals as goal

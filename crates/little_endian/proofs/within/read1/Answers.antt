@@ -1,6 +1,5 @@
 use native.Mathlib.Omega.{arith}
 use Rattle.little_endian.proofs.Numbers.{one_read}
-use borrow.Author.Rules.{rules}
 use Rattle.little_endian.proofs.within.read1.Goals as goal
 
 pub returns : goal.returns

@@ -1,5 +1,4 @@
 use Rattle.little_endian.proofs.Numbers.{parts_read}
-use borrow.Author.Rules.{rules}
 use Rattle.little_endian.proofs.within.read2.Goals as goal
 
 pub returns : goal.returns

@@ -1,4 +1,3 @@
-use borrow.Author.Rules.{rules}
 use native.Mathlib.Omega.{arith}
 use Rattle.table.specs.View.{view_link}
 use Rattle.table.proofs.Ranges.{line_past, priority_past, code_past, least_below, least_above_greatest, greatest_past, jitter_within}

@@ -1,4 +1,3 @@
-use borrow.Author.Rules.{rules}
 use Rattle.table.specs.View.{view_links}
 use Rattle.table.proofs.checks.lines_refusal.Goals as goal
 

@@ -1,17 +1,11 @@
-use borrow.Author.Rules.{rules}
-use mathlib.Core.Path.{◌≡◌, refl}
-use mathlib.Core.Option.{none}
-use Prim.Native.Nat.{◌-◌, ◌≤◌}
+use mathlib.Core.Path.{refl}
 use native.Mathlib.Omega.{arith}
-use lib.ListN.{get_or, drop}
-use Rattle.model.specs.Basics.{first_met}
-use Rattle.model.specs.Table.{links_checks}
+use lib.ListN.{get_or}
 use Rattle.model.proofs.TableFacts.{counts_fit}
-use Rattle.table.specs.Checks.{previous_of}
 use Rattle.table.specs.View.{view_links}
 use Rattle.table.proofs.Refusals.{previous_none}
 use Rattle.table.proofs.Shape.{sized}
-use Rattle.table.proofs.Reservations.{Summed, summed_none, summed_more, summed_all}
+use Rattle.table.proofs.Reservations.{summed_none, summed_more, summed_all}
 use Rattle.table.proofs.Links.{links_stop, links_go_on, links_end}
 use Rattle.table.proofs.checks.links_refusal.Goals as goal
 

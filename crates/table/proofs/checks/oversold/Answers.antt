@@ -1,9 +1,7 @@
-use borrow.Author.Rules.{rules}
 use mathlib.Core.Path.{◌≡◌}
-use Prim.Native.Nat.{◌-◌, ◌≤◌}
 use native.Mathlib.Omega.{arith}
 use lib.ListN.{length}
-use Rattle.table.proofs.Reservations.{CarryTo, carry_none, carry_more, line_over, lines_end}
+use Rattle.table.proofs.Reservations.{carry_none, carry_more, line_over, lines_end}
 use Rattle.table.proofs.checks.oversold.Goals as goal
 
 pub loop-line-init : goal.loop-line-init

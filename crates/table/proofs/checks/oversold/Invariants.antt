@@ -1,4 +1,3 @@
-use mathlib.Core.Path.{◌≡◌}
 use Prim.Native.Nat.{◌-◌, ◌≤◌}
 use Rattle.table.proofs.Reservations.{CarryTo}
 use Rattle.table.proofs.checks.oversold.Given as goal

@@ -1,4 +1,3 @@
-use borrow.Author.Rules.{rules}
 use native.Mathlib.Omega.{arith}
 use Rattle.table.proofs.Reservations.{reservation_shifted}
 use Rattle.table.proofs.checks.reservation_of.Goals as goal

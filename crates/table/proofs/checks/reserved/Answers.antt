@@ -1,10 +1,7 @@
-use borrow.Author.Rules.{rules}
-use mathlib.Core.Path.{◌≡◌}
-use Prim.Native.Nat.{◌-◌, ◌≤◌, min}
 use native.Mathlib.Omega.{arith}
 use lib.ListN.{get_or}
 use Rattle.table.proofs.Shape.{sized}
-use Rattle.table.proofs.Reservations.{Summed, summed_none, summed_more, summed_all}
+use Rattle.table.proofs.Reservations.{summed_none, summed_more, summed_all}
 use Rattle.table.proofs.checks.reserved.Goals as goal
 
 pub loop-i-init : goal.loop-i-init

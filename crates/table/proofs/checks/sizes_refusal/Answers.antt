@@ -1,8 +1,6 @@
 use mathlib.Core.Path.{◌≡◌, refl}
-use mathlib.Core.Bool.{true}
-use Prim.Native.Nat.{◌-◌, ◌≤◌}
 use native.Mathlib.Omega.{arith}
-use lib.ListN.{length, take}
+use lib.ListN.{length}
 use Rattle.model.specs.Table.{all_at_most}
 use Rattle.table.proofs.Ranges.{at_most_more, size_past, sizes_end}
 use Rattle.table.proofs.checks.sizes_refusal.Goals as goal

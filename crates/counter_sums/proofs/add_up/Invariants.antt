@@ -1,0 +1,12 @@
+use mathlib.Core.Path.{◌≡◌}
+use Prim.Native.Nat.{◌-◌, ◌≤◌}
+use Rattle.model.specs.Basics.{entries}
+use Rattle.model.specs.Counters.{link_sums, grand_total}
+use Rattle.counters.specs.View.{view_counts}
+use Rattle.counter_sums.proofs.add_up.Given as goal
+
+abbrev pub invariant-loop-i : goal.invariant-loop-i
+invariant-loop-i l = (l.sums ≡ entries 0 256 (link_sums l.i (view_counts l.n l.counts l.unknown))) × (l.total ≡ grand_total l.i (view_counts l.n l.counts l.unknown)) × (l.i ≤ l.end) × (l.end ≡ l.n)
+
+abbrev pub decreases-loop-i : goal.decreases-loop-i
+decreases-loop-i l = l.end - l.i

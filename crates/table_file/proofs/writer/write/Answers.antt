@@ -1,0 +1,24 @@
+use Prim.Native.Nat.{◌+◌, ◌*◌}
+use native.Mathlib.Omega.{arith}
+use Rattle.table.specs.View.{view_table}
+use Rattle.table.proofs.Shape.{sized}
+use Rattle.table_file.proofs.Answers.{table_refused, no_room, wrote_all, count_few, length_shown, file_laid}
+use Rattle.table_file.proofs.writer.write.Goals as goal
+
+pub returns-then-refused-ne0 : goal.returns-then-refused-ne0
+returns-then-refused-ne0 c = table_refused (view_table c.args.t) c.args.out.now _ c.check-refused.ensures c.if-refused-ne0.true
+
+pub returns-then-out-at : goal.returns-then-out-at
+returns-then-out-at c = no_room (view_table c.args.t) c.args.out.now _ c.check-refused.ensures c.if-refused-ne0.false (omega (arith, length_shown c.args.t))
+
+pub link_records-requires : goal.link_records-requires
+link_records-requires c = let few = count_few c.args.t _ c.check-refused.ensures c.if-refused-ne0.false in omega arith
+
+pub returns : goal.returns
+returns c =
+    let t = c.args.t in
+    let out = c.args.out.now in
+    let n = length_shown t in
+    wrote_all (view_table t) out _ c.check-refused.ensures c.if-refused-ne0.false (8 + 18 * t.count + 36) c.sizes_record.new.out (omega arith) (omega arith)
+    (file_laid t out c.counts_record.new.out c.link_records.new.out c.sizes_record.new.out (sized t _ c.well_formed.0).sizes (omega arith)
+    c.counts_record.ensures c.link_records.ensures c.sizes_record.ensures)
