@@ -6,8 +6,9 @@ ghost use Rattle.io.specs.Counts.{IsPrefixLen};
 ghost use Rattle.input.specs.Numerals.{is_digit, with_digit, capped, read_numeral};
 
 use std::env::FillError;
+use std::fs::File;
 use std::io::Read;
-use std::rt::Env;
+use std::rt::{Env, Files};
 
 // The file that a program begins with and reads.
 pub const STDIN_FILENO: i32 = 0;
@@ -129,5 +130,16 @@ pub fn arg<E: Env>(rt: &E, i: usize, buf: &mut [u8]) -> usize
     match rt.arg(i, buf) {
         Ok(n) => n,
         Err(_) => 0,
+    }
+}
+
+// Opens the file of that name for reading, if it can be opened and the name is text.
+pub fn open_read<F: Files>(rt: &F, name: &[u8]) -> Option<F::File> {
+    match str::from_utf8(name) {
+        Ok(path) => match File::open(rt, path) {
+            Ok(file) => Some(file),
+            Err(_) => None,
+        },
+        Err(_) => None,
     }
 }

@@ -1,10 +1,10 @@
 // The calls, and what is printed of each.
 use crate::recording;
 use crate::recording::{PART, Recording};
-use libc::STDOUT_FILENO;
+use crate::source::Source;
 use numbers::u8_as_u64;
 use output::messages::put_refused;
-use output::{Out, ROOM};
+use output::{Out, ROOM, STDOUT_FILENO};
 use redundancy::{Network, State};
 use redundancy_measure::measured;
 
@@ -44,7 +44,7 @@ struct Reached {
 }
 
 // Presents the frames that wait until both recordings have ended, and prints a line for each call.
-pub(crate) fn run(skew: u64, fd_a: i32, fd_b: i32) -> u8 {
+pub(crate) fn run(skew: u64, fd_a: &mut Source, fd_b: &mut Source) -> u8 {
     let mut part_a = [0u8; PART];
     let mut part_b = [0u8; PART];
     let mut room = [0u8; ROOM];
@@ -74,8 +74,8 @@ pub(crate) fn run(skew: u64, fd_a: i32, fd_b: i32) -> u8 {
 
 fn turn(
     now: Reached,
-    fd_a: i32,
-    fd_b: i32,
+    fd_a: &mut Source,
+    fd_b: &mut Source,
     part_a: &mut [u8; PART],
     part_b: &mut [u8; PART],
     room: &mut [u8; ROOM],
@@ -123,7 +123,7 @@ fn put_call<'a>(
 }
 
 // The frame that was taken makes room for the next of its recording.
-fn after(fd: i32, r: Recording, part: &mut [u8; PART], is_taken: bool) -> Recording {
+fn after(fd: &mut Source, r: Recording, part: &mut [u8; PART], is_taken: bool) -> Recording {
     if is_taken {
         return recording::next(fd, r, part);
     }

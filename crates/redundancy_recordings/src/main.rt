@@ -5,56 +5,52 @@
 
 mod calls;
 mod recording;
+mod source;
 
-use libc::STDIN_FILENO;
 use output::messages::tell;
+use source::Source;
 
-fn main() {
-    if os::arg_count() != 4 {
+fn main(rt: HostRuntime) {
+    if input::arg_count(&rt) != 4 {
         tell_usage();
         return;
     }
     let mut word = io::buffer();
-    let n = os::arg(1, &mut word);
+    let n = input::arg(&rt, 1, &mut word);
     let skew = input::read_numeral(&word[..n]);
     if !skew.is_numeral {
         tell_usage();
         return;
     }
-    with_skew(skew.value);
+    with_skew(&rt, skew.value);
 }
 
 fn tell_usage() {
     tell(b"usage: redundancy SKEW A B", b"");
 }
 
-fn with_skew(skew: u64) {
+fn with_skew(rt: &HostRuntime, skew: u64) {
     let mut first = io::buffer();
-    let n = os::arg(2, &mut first);
+    let n = input::arg(rt, 2, &mut first);
     let mut second = io::buffer();
-    let k = os::arg(3, &mut second);
-    with_names(skew, &first[..n], &second[..k]);
+    let k = input::arg(rt, 3, &mut second);
+    with_names(rt, skew, &first[..n], &second[..k]);
 }
 
-fn with_names<'a>(skew: u64, a: &'a [u8], b: &'a [u8]) {
+fn with_names<'a>(rt: &HostRuntime, skew: u64, a: &'a [u8], b: &'a [u8]) {
     if is_input(a) && is_input(b) {
         tell_usage();
         return;
     }
-    let fd_a = opened(a);
-    if fd_a < 0 {
+    let Some(mut fd_a) = opened(rt, a) else {
         tell(b"can't open ", a);
         return;
-    }
-    let fd_b = opened(b);
-    if fd_b < 0 {
-        libc::close(fd_a);
+    };
+    let Some(mut fd_b) = opened(rt, b) else {
         tell(b"can't open ", b);
         return;
-    }
-    let end = calls::run(skew, fd_a, fd_b);
-    libc::close(fd_a);
-    libc::close(fd_b);
+    };
+    let end = calls::run(skew, &mut fd_a, &mut fd_b);
     if end == calls::UNREAD_A {
         tell(b"can't read ", a);
     } else if end == calls::UNREAD_B {
@@ -70,9 +66,12 @@ fn is_input(name: &[u8]) -> bool {
     name.len() == 1 && name[0] == b'-'
 }
 
-fn opened(name: &[u8]) -> i32 {
+fn opened(rt: &HostRuntime, name: &[u8]) -> Option<Source> {
     if is_input(name) {
-        return STDIN_FILENO;
+        return Some(Source::Input(rt.stdin()));
     }
-    os::open_read(name)
+    match input::open_read(rt, name) {
+        Some(file) => Some(Source::File(file)),
+        None => None,
+    }
 }

@@ -1,6 +1,7 @@
 // A recording, read in parts.
 ghost use Rattle.std.specs.Prelude.{◌≤◌, length};
 
+use crate::source::Source;
 use little_endian::read8;
 
 // The bytes of a part. A frame lies in it whole.
@@ -56,7 +57,7 @@ fn none(failed: bool, behind: u8) -> Recording {
 }
 
 // The frame behind the one that waits.
-pub(crate) fn next(fd: i32, r: Recording, part: &mut [u8; PART]) -> Recording {
+pub(crate) fn next(fd: &mut Source, r: Recording, part: &mut [u8; PART]) -> Recording {
     let passed = Unread {
         from: least(r.at, PART) + least(r.length, MOST),
         to: r.to,
@@ -112,7 +113,7 @@ fn count(u: Unread) -> usize {
 }
 
 // At least so many bytes to be read, or all that there are: what is left of the part goes to its start, and more is read behind it.
-fn filled(fd: i32, part: &mut [u8], u: Unread, many: usize) -> Unread {
+fn filled(fd: &mut Source, part: &mut [u8], u: Unread, many: usize) -> Unread {
     if many <= count(u) || u.behind != MORE {
         return u;
     }
