@@ -5,8 +5,7 @@
 use case_records::given::least;
 use case_records::rows::{number, say};
 use case_records::sums::of_table;
-use case_records::tables::{say_counts, say_links, take};
-use libc::STDIN_FILENO;
+use case_records::tables::{STDIN_FILENO, say_counts, say_links, take};
 use little_endian::read2;
 use table::Table;
 

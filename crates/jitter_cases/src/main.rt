@@ -3,8 +3,7 @@
 #![tactic(auto)]
 
 use case_records::rows::{number, print, say};
-use case_records::tables::take;
-use libc::STDIN_FILENO;
+use case_records::tables::{STDIN_FILENO, take};
 use little_endian::{read2, read8};
 
 // The bytes before those of a table record.
