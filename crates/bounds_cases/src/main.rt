@@ -2,8 +2,12 @@
 // src/cases/bounds.rs has the form of a case: length in two bytes, as many bytes.
 #![tactic(auto)]
 
-use libc::{STDIN_FILENO, STDOUT_FILENO};
 use little_endian::read2;
+
+// The files that a program begins with.
+const STDIN_FILENO: i32 = 0;
+
+const STDOUT_FILENO: i32 = 1;
 
 // The longest case that is taken.
 const ROOM: usize = 5000;

@@ -2,8 +2,8 @@
 ghost use Rattle.std.specs.Prelude.{◌≡◌, ◌/◌, min, length};
 ghost use Rattle.io.specs.Digits.{IsDigitCount};
 
+use crate::STDOUT_FILENO;
 use crate::given::least;
-use libc::STDOUT_FILENO;
 
 pub fn say(text: &[u8]) -> usize
     ensures { result ≡ length text.now }

@@ -1,10 +1,10 @@
 // Table records: read from standard input, and printed.
 ghost use Rattle.std.specs.Prelude.{◌≡◌, ◌<◌, min};
 
+use crate::STDIN_FILENO;
 use crate::given::least;
 use crate::record::table_at;
 use crate::rows::{number, print, say};
-use libc::STDIN_FILENO;
 use table::{Table, VirtualLink};
 
 // The longest table record: 256 links, each of 13 bytes, with 51 besides.

@@ -5,9 +5,13 @@
 
 ghost use Rattle.std.specs.Prelude.{◌≤◌};
 
-use libc::{STDIN_FILENO, STDOUT_FILENO};
 use little_endian::{read1, read2, read4};
 use table::{Table, VirtualLink};
+
+// The files that a program begins with.
+const STDIN_FILENO: i32 = 0;
+
+const STDOUT_FILENO: i32 = 1;
 
 // The longest case that is taken, and the longest output.
 const ROOM: usize = 5000;
