@@ -6,9 +6,9 @@ mod ports;
 mod reports;
 mod tables;
 
+use case_records::STDIN_FILENO;
 use case_records::rows::{number, say};
 use case_records::tables::{say_counts, say_links, take};
-use libc::STDIN_FILENO;
 use little_endian::{read2, read8};
 
 // The bytes before those of a table record.
