@@ -5,10 +5,14 @@
 
 ghost use Rattle.std.specs.Prelude.{◌≤◌};
 
-use libc::{STDIN_FILENO, STDOUT_FILENO};
 use little_endian::read4;
 use port::Port;
 use units::LIST_ROOM;
+
+// The files that a program begins with.
+const STDIN_FILENO: i32 = 0;
+
+const STDOUT_FILENO: i32 = 1;
 
 fn main() {
     let mut head = [0u8; 24];
