@@ -1,4 +1,3 @@
-use borrow.Author.Rules.{rules}
 use Rattle.bench_calls.proofs.Adding.{core_count}
 use Rattle.bench_calls.proofs.bench_core.Goals as goal
 

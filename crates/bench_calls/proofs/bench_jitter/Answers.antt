@@ -1,4 +1,3 @@
-use borrow.Author.Rules.{rules}
 use Rattle.bench_calls.proofs.Adding.{margin_is}
 use Rattle.bench_calls.proofs.bench_jitter.Goals as goal
 

@@ -1,5 +1,4 @@
 use mathlib.Core.Path.{◌∙◌}
-use borrow.Author.Rules.{rules}
 use Rattle.bench_calls.proofs.Adding.{text_sum}
 use Rattle.bench_calls.proofs.bench_sheet.Goals as goal
 

@@ -1,4 +1,3 @@
-use borrow.Author.Rules.{rules}
 use Rattle.bench_calls.proofs.Adding.{sizing_is}
 use Rattle.bench_calls.proofs.bench_sizing.Goals as goal
 

@@ -1,10 +1,7 @@
 use mathlib.Core.Path.{◌≡◌, ◌∙◌}
-use Prim.Native.Nat.{◌-◌, ◌*◌, ◌≤◌}
 use native.Mathlib.Omega.{arith}
-use borrow.Author.Rules.{rules}
-use lib.ListN.{length, take}
+use lib.ListN.{length}
 use Rattle.sheet_numerals.specs.Fixed.{text_room}
-use Rattle.bench_calls.specs.Sums.{sum}
 use Rattle.bench_calls.proofs.Adding.{sum_none, sum_more, sum-all}
 use Rattle.bench_calls.proofs.byte_sum.Goals as goal
 

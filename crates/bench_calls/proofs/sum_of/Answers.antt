@@ -1,9 +1,6 @@
 use mathlib.Core.Path.{◌≡◌, ◌∙◌}
-use Prim.Native.Nat.{◌-◌, ◌*◌, ◌≤◌}
 use native.Mathlib.Omega.{arith}
-use borrow.Author.Rules.{rules}
-use lib.ListN.{length, take}
-use Rattle.bench_calls.specs.Sums.{sum}
+use lib.ListN.{length}
 use Rattle.bench_calls.proofs.Adding.{sum_none, sum_more, sum-all}
 use Rattle.bench_calls.proofs.sum_of.Goals as goal
 
