@@ -1,10 +1,9 @@
 // What is printed of the links that remain: a line for each, then for each line of the table what they reserve on it.
 ghost use Rattle.std.specs.Prelude.{◌<◌};
 
-use libc::STDOUT_FILENO;
 use numbers::{smaller, u16_as_u64, u32_as_u64};
 use output::messages::end;
-use output::{Out, ROOM};
+use output::{Out, ROOM, STDOUT_FILENO};
 use table::Table;
 use table_input::how_many;
 use units::LEAST_BAG;

@@ -11,12 +11,12 @@ use table::Table;
 // The program's name alone.
 const WORDS: usize = 1;
 
-fn main() {
-    if os::arg_count() != WORDS {
+fn main(rt: HostRuntime) {
+    if input::arg_count(&rt) != WORDS {
         tell(b"usage: handful", b"");
         return;
     }
-    let given = table_input::read_table();
+    let given = table_input::read_table(&rt);
     if given.is_table {
         let t = given.table;
         with_table(t);

@@ -2,10 +2,9 @@
 ghost use Rattle.std.specs.Prelude.{◌<◌};
 
 use jitter_margin::Margin;
-use libc::{STDERR_FILENO, STDOUT_FILENO};
 use numbers::u32_as_u64;
 use output::messages::{end, refuse};
-use output::{Out, ROOM};
+use output::{Out, ROOM, STDERR_FILENO, STDOUT_FILENO};
 use table::Table;
 use table_input::how_many;
 

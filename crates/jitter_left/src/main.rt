@@ -13,12 +13,12 @@ const WITHOUT_NUMBER: usize = 1;
 
 const WITH_NUMBER: usize = 2;
 
-fn main() {
-    let n = os::arg_count();
+fn main(rt: HostRuntime) {
+    let n = input::arg_count(&rt);
     if n == WITHOUT_NUMBER {
-        with_asked(false, 0);
+        with_asked(&rt, false, 0);
     } else if n == WITH_NUMBER {
-        with_word();
+        with_word(&rt);
     } else {
         tell_usage();
     }
@@ -28,24 +28,24 @@ fn tell_usage() {
     tell(b"usage: jitter_left [NUMBER]", b"");
 }
 
-fn with_word() {
-    let v = word(1);
+fn with_word(rt: &HostRuntime) {
+    let v = word(rt, 1);
     if v.is_numeral {
-        with_asked(true, v.value);
+        with_asked(rt, true, v.value);
     } else {
         tell_usage();
     }
 }
 
-fn word(i: usize) -> Numeral {
+fn word(rt: &HostRuntime, i: usize) -> Numeral {
     let mut text = io::buffer();
-    let n = os::arg(i, &mut text);
+    let n = input::arg(rt, i, &mut text);
     input::read_numeral(&text[..n])
 }
 
 // The link of a number is asked for, or every link.
-fn with_asked(is_one: bool, number: u64) {
-    let given = table_input::read_table();
+fn with_asked(rt: &HostRuntime, is_one: bool, number: u64) {
+    let given = table_input::read_table(rt);
     if !given.is_table {
         return;
     }

@@ -6,7 +6,7 @@
 ghost use Rattle.std.specs.Prelude.{◌≤◌, length};
 
 use input::Numeral;
-use libc::STDOUT_FILENO;
+use output::STDOUT_FILENO;
 use output::messages::{refuse, tell};
 use table_input::{LONGEST, ROOM};
 
@@ -15,12 +15,12 @@ const WITHOUT_SIZES: usize = 3;
 
 const WITH_SIZES: usize = 11;
 
-fn main() {
-    let n = os::arg_count();
+fn main(rt: HostRuntime) {
+    let n = input::arg_count(&rt);
     if n == WITHOUT_SIZES {
-        with_words(WITHOUT_SIZES);
+        with_words(&rt, WITHOUT_SIZES);
     } else if n == WITH_SIZES {
-        with_words(WITH_SIZES);
+        with_words(&rt, WITH_SIZES);
     } else {
         tell_usage();
     }
@@ -30,26 +30,26 @@ fn tell_usage() {
     tell(b"usage: next_table LINE LINES [SIZES]", b"");
 }
 
-fn with_words(n: usize)
+fn with_words(rt: &HostRuntime, n: usize)
     requires { n ≤ 11 }
 {
     let mut numbers = [0u64; WITH_SIZES];
-    if !are_read(n, &mut numbers) {
+    if !are_read(rt, n, &mut numbers) {
         tell_usage();
         return;
     }
     let w = numbers;
     let sizes = [w[3], w[4], w[5], w[6], w[7], w[8], w[9], w[10]];
-    with_numbers(w[1], w[2], sizes);
+    with_numbers(rt, w[1], w[2], sizes);
 }
 
 // Reads the words behind the program's name, and says whether all are numerals.
-fn are_read(n: usize, numbers: &mut [u64]) -> bool
+fn are_read(rt: &HostRuntime, n: usize, numbers: &mut [u64]) -> bool
     requires { n ≤ length numbers.old }
 {
     let mut i: usize = 1;
     while i < n {
-        let v = word(i);
+        let v = word(rt, i);
         if !v.is_numeral {
             return false;
         }
@@ -59,15 +59,15 @@ fn are_read(n: usize, numbers: &mut [u64]) -> bool
     true
 }
 
-fn word(i: usize) -> Numeral {
+fn word(rt: &HostRuntime, i: usize) -> Numeral {
     let mut text = io::buffer();
-    let n = os::arg(i, &mut text);
+    let n = input::arg(rt, i, &mut text);
     input::read_numeral(&text[..n])
 }
 
-fn with_numbers(line: u64, lines: u64, sizes: [u64; 8]) {
+fn with_numbers(rt: &HostRuntime, line: u64, lines: u64, sizes: [u64; 8]) {
     let mut file = [0u8; ROOM];
-    let given = table_input::read_file(&mut file);
+    let given = table_input::read_file(rt, &mut file);
     if given.is_read {
         let n = given.length;
         put_next(&file[..n], line, lines, sizes);

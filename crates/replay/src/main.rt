@@ -8,33 +8,32 @@ mod answers;
 mod counts;
 mod parts;
 
-use libc::SEEK_SET;
 use output::messages::{refuse, tell};
 use port::Port;
+use std::fs::File;
+use std::io::{Seek, SeekFrom};
 use table::Table;
 
 // The longest table file, and a byte more.
 const TABLE: usize = 4653;
 
-fn main() {
-    if os::arg_count() != 3 {
+fn main(rt: HostRuntime) {
+    if input::arg_count(&rt) != 3 {
         tell(b"usage: replay TABLE REPORTS", b"");
         return;
     }
     let mut name = io::buffer();
-    let n = os::arg(1, &mut name);
-    with_table(&name[..n]);
+    let n = input::arg(&rt, 1, &mut name);
+    with_table(&rt, &name[..n]);
 }
 
-fn with_table(name: &[u8]) {
-    let fd = os::open_read(name);
-    if fd < 0 {
+fn with_table(rt: &HostRuntime, name: &[u8]) {
+    let Some(mut fd) = input::open_read(rt, name) else {
         tell(b"can't open ", name);
         return;
-    }
+    };
     let mut file = [0u8; TABLE];
-    let given = input::read(fd, &mut file);
-    libc::close(fd);
+    let given = input::read(&mut fd, &mut file);
     if !given.is_read {
         tell(b"can't read ", name);
         return;
@@ -47,19 +46,17 @@ fn with_table(name: &[u8]) {
     }
     let t = reading.table;
     let mut second = io::buffer();
-    let k = os::arg(2, &mut second);
-    with_reports(t, &second[..k]);
+    let k = input::arg(rt, 2, &mut second);
+    with_reports(rt, t, &second[..k]);
 }
 
 // The reports are read twice: nothing is printed of a file that has something else in it.
-fn with_reports(t: Table, name: &[u8]) {
-    let fd = os::open_read(name);
-    if fd < 0 {
+fn with_reports(rt: &HostRuntime, t: Table, name: &[u8]) {
+    let Some(mut fd) = input::open_read(rt, name) else {
         tell(b"can't open ", name);
         return;
-    }
-    let state = answered(t, fd);
-    libc::close(fd);
+    };
+    let state = answered(t, &mut fd);
     if state == parts::OTHER {
         refuse(19);
     } else if state == parts::FAILED {
@@ -69,12 +66,12 @@ fn with_reports(t: Table, name: &[u8]) {
     }
 }
 
-fn answered(t: Table, fd: i32) -> u8 {
+fn answered(t: Table, fd: &mut File) -> u8 {
     let state = parts::check(fd);
     if state != parts::ENDED {
         return state;
     }
-    if libc::lseek(fd, 0, SEEK_SET) != 0 {
+    if !is_at_start(fd) {
         return parts::FAILED;
     }
     let refused = table::check(t);
@@ -83,6 +80,14 @@ fn answered(t: Table, fd: i32) -> u8 {
         return state;
     }
     parts::replay(fresh_port(t), fd)
+}
+
+// Whether the file could be put back to its first byte.
+fn is_at_start(fd: &mut File) -> bool {
+    match fd.seek(SeekFrom::Start(0)) {
+        Ok(at) => at == 0,
+        Err(_) => false,
+    }
 }
 
 // Apart from its caller, so that what holds the fresh port is gone when the reports run.

@@ -3,10 +3,10 @@ ghost use Rattle.std.specs.Prelude.{◌≤◌, length};
 
 use crate::answers::{GIVEN, LIST};
 use crate::{answers, counts};
-use libc::STDOUT_FILENO;
 use little_endian::read8;
-use output::{Out, ROOM};
+use output::{Out, ROOM, STDOUT_FILENO};
 use port::Port;
+use std::fs::File;
 
 const REPORT: usize = 40;
 
@@ -34,7 +34,7 @@ struct Part {
     n: usize,
 }
 
-fn next_part(fd: i32, bytes: &mut [u8; PART]) -> Part
+fn next_part(fd: &mut File, bytes: &mut [u8; PART]) -> Part
     ensures { result.n ≤ 8000 }
 {
     let read = input::read(fd, bytes);
@@ -80,7 +80,7 @@ pub(crate) fn least(a: usize, b: usize) -> usize
 }
 
 // Reads the file to its end, or to what is no report.
-pub(crate) fn check(fd: i32) -> u8 {
+pub(crate) fn check(fd: &mut File) -> u8 {
     let mut bytes = [0u8; PART];
     let mut state = MORE;
     // Nothing says that a file ends, so the loop counts down, from a number that no run uses up.
@@ -95,7 +95,7 @@ pub(crate) fn check(fd: i32) -> u8 {
 
 // Runs every report, part by part, and prints what the queues hold at the end, then the counts. A file that is not what it
 // was when it was checked counts as one that can't be read.
-pub(crate) fn replay(mut port: Port, fd: i32) -> u8 {
+pub(crate) fn replay(mut port: Port, fd: &mut File) -> u8 {
     let mut room = [0u8; ROOM];
     let mut bytes = [0u8; PART];
     let mut numbers = [0u64; NUMBERS];

@@ -2,12 +2,15 @@
 // else there is to know goes to standard error: a message, or `refused` alone.
 #![tactic(auto)]
 
-use libc::{STDERR_FILENO, STDIN_FILENO, STDOUT_FILENO};
+// The files that a program begins with and writes to.
+const STDOUT_FILENO: i32 = 1;
 
-fn main() {
+const STDERR_FILENO: i32 = 2;
+
+fn main(rt: HostRuntime) {
     // One byte more than the largest file has.
     let mut file = [0u8; 4653];
-    let given = input::read(STDIN_FILENO, &mut file);
+    let given = input::read(&mut rt.stdin(), &mut file);
     if !given.is_read {
         io::write_all(STDERR_FILENO, b"can't read the table file\n");
         return;

@@ -1,12 +1,12 @@
 -- What the reader's answer says of the table that is taken.
 use mathlib.Core.Path.{◌≡◌, refl, sym, ap, ◌∙◌}
-use mathlib.Core.Bool.{true, false}
+use mathlib.Core.Bool.{false}
 use mathlib.Core.List.{List}
 use Prim.Native.Nat.{ℕ, zero, suc}
 use native.Mathlib.Omega.{arith}
 use lib.Dec.{eqb}
 use borrow.Author.Tests.{eqb-true, eqb-false}
-use Rattle.model.specs.Table.{blank_table, table_refusal}
+use Rattle.model.specs.Table.{blank_table}
 use Rattle.model.specs.TableFile.{read_table}
 use Rattle.model.proofs.FileRead.{refused_blank, read_passes}
 use Rattle.table.specs.declared.Table.{Table as TableRecord}

@@ -6,7 +6,6 @@ ghost use Rattle.io.specs.Counts.{IsPrefixLen};
 ghost use Rattle.table_input.specs.Taken.{Taken};
 
 use input::Given;
-use libc::STDIN_FILENO;
 use numbers::{smaller, u16_as_u64};
 use output::messages::{refuse, tell};
 use table::Table;
@@ -25,11 +24,11 @@ pub struct TableInput {
 }
 
 // The table of the file, or it is said that it can't be read, or how it is refused.
-pub fn read_table() -> TableInput
+pub fn read_table(rt: &HostRuntime) -> TableInput
     ensures { Taken result }
 {
     let mut file = [0u8; ROOM];
-    let given = read_file(&mut file);
+    let given = read_file(rt, &mut file);
     if !given.is_read {
         return TableInput {
             is_table: false,
@@ -41,10 +40,10 @@ pub fn read_table() -> TableInput
 }
 
 // The bytes of the file, or it is said that it can't be read.
-pub fn read_file(file: &mut [u8]) -> Given
+pub fn read_file(rt: &HostRuntime, file: &mut [u8]) -> Given
     ensures { IsPrefixLen result.length file.new }
 {
-    let given = input::read(STDIN_FILENO, file);
+    let given = input::read(&mut rt.stdin(), file);
     if !given.is_read {
         tell(b"can't read the table file", b"");
     }

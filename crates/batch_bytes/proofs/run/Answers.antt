@@ -37,19 +37,19 @@ pub put_three-requires : goal.put_three-requires
 put_three-requires c = omega (arith, c.loop-i-test.true, c.loop-i.invariant.enough, c.loop-i.invariant.answers_long)
 
 pub slice_bounds-put_departures-end : goal.slice_bounds-put_departures-end
-slice_bounds-put_departures-end c = sym (room_after c.loop-i.invariant c.lent-most.result c.report-a.ensures (omega (arith, c.room-in-loop-i-1.given)) (omega (arith, c.lent-most.ensures)))
+slice_bounds-put_departures-end c = sym (room_after c.loop-i.invariant c.lent-most.result c.report-a.ensures (omega arith) (omega (arith, c.lent-most.ensures)))
 
 pub overflow_mul-freed : goal.overflow_mul-freed
-overflow_mul-freed c = omega (arith, few c.loop-i.invariant c.lent-most.result c.report-a.ensures (omega (arith, c.room-in-loop-i-1.given)) (omega (arith, c.lent-most.ensures)), c.lent-most.ensures)
+overflow_mul-freed c = omega (arith, few c.loop-i.invariant c.lent-most.result c.report-a.ensures (omega arith) (omega (arith, c.lent-most.ensures)), c.lent-most.ensures)
 
 pub overflow_mul-written-in-loop-i : goal.overflow_mul-written-in-loop-i
 overflow_mul-written-in-loop-i c = omega (arith, c.loop-i.invariant.within, c.loop-i.invariant.list_short)
 
 pub put_departures-requires : goal.put_departures-requires
-put_departures-requires c = (rw (room_after c.loop-i.invariant c.lent-most.result c.report-a.ensures (omega (arith, c.room-in-loop-i-1.given)) (omega (arith, c.lent-most.ensures))) (omega (arith, few c.loop-i.invariant c.lent-most.result c.report-a.ensures (omega (arith, c.room-in-loop-i-1.given)) (omega (arith, c.lent-most.ensures)), c.lent-most.ensures)), omega (arith, within_after c.loop-i.invariant (omega (arith, c.loop-i-test.true)) c.report_at-report.ensures c.lent-most.ensures c.report-a.ensures (omega (arith, c.room-in-loop-i-1.given)), c.loop-i.invariant.list_long))
+put_departures-requires c = (rw (room_after c.loop-i.invariant c.lent-most.result c.report-a.ensures (omega arith) (omega (arith, c.lent-most.ensures))) (omega (arith, few c.loop-i.invariant c.lent-most.result c.report-a.ensures (omega arith) (omega (arith, c.lent-most.ensures)), c.lent-most.ensures)), omega (arith, within_after c.loop-i.invariant (omega (arith, c.loop-i-test.true)) c.report_at-report.ensures c.lent-most.ensures c.report-a.ensures (omega arith), c.loop-i.invariant.list_long))
 
 pub overflow_add-written : goal.overflow_add-written
-overflow_add-written c = omega (arith, within_after c.loop-i.invariant (omega (arith, c.loop-i-test.true)) c.report_at-report.ensures c.lent-most.ensures c.report-a.ensures (omega (arith, c.room-in-loop-i-1.given)), c.loop-i.invariant.list_short)
+overflow_add-written c = omega (arith, within_after c.loop-i.invariant (omega (arith, c.loop-i-test.true)) c.report_at-report.ensures c.lent-most.ensures c.report-a.ensures (omega arith), c.loop-i.invariant.list_short)
 
 pub overflow_add-i : goal.overflow_add-i
 overflow_add-i c = omega (arith, c.loop-i-test.true, c.loop-i.invariant.reports_short)
@@ -58,7 +58,7 @@ pub loop-i-smaller : goal.loop-i-smaller
 loop-i-smaller c = omega (arith, c.loop-i-test.true)
 
 pub loop-i-preserved : goal.loop-i-preserved
-loop-i-preserved c = turns c.loop-i.invariant (omega (arith, c.loop-i-test.true)) c.report_at-report.ensures c.lent-most.ensures c.report-a.ensures (omega (arith, c.room-in-loop-i-1.given)) c.still-accepted.ensures c.u32_as_u64.ensures.0 c.u32_as_u64-in-loop-i.ensures.0 c.put_three.ensures c.put_departures.ensures (omega (arith, c.answers-1.given)) (omega (arith, c.list-1.given))
+loop-i-preserved c = turns c.loop-i.invariant (omega (arith, c.loop-i-test.true)) c.report_at-report.ensures c.lent-most.ensures c.report-a.ensures (omega arith) c.still-accepted.ensures c.u32_as_u64.ensures.0 c.u32_as_u64-in-loop-i.ensures.0 c.put_three.ensures c.put_departures.ensures (omega arith) (omega arith)
 
 pub shape_of-frames : goal.shape_of-frames
 shape_of-frames c = omega (arith, c.requires.1.sized.flat.frames_are, c.loop-i.invariant.progress.stands.sized.flat.frames_are)

@@ -10,7 +10,7 @@ pub write8-requires : goal.write8-requires
 write8-requires c = omega (arith, c.loop-p.invariant.long, c.loop-p-test.true, c.requires)
 
 pub loop-p-preserved : goal.loop-p-preserved
-loop-p-preserved c = lays c.loop-p.invariant (omega arith) c.requires c.loop-p-test.true (rw c.u32_as_u64.ensures.0 at c.write8.ensures) (omega (arith, c.out-1.given))
+loop-p-preserved c = lays c.loop-p.invariant (omega arith) c.requires c.loop-p-test.true (rw c.u32_as_u64.ensures.0 at c.write8.ensures) (omega arith)
 
 pub shape_of-out : goal.shape_of-out
 shape_of-out c = c.loop-p.invariant.long
