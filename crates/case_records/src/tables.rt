@@ -1,7 +1,6 @@
 // Table records: read from standard input, and printed.
 ghost use Rattle.std.specs.Prelude.{◌≡◌, ◌<◌, min};
 
-use crate::STDIN_FILENO;
 use crate::given::least;
 use crate::record::table_at;
 use crate::rows::{number, print, say};
