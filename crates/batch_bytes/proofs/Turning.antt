@@ -25,7 +25,7 @@ use Rattle.flat_port.specs.Promised.{Reports, step_of}
 use Rattle.flat_port.proofs.Standing.{few_held}
 use Rattle.flat_batch.specs.Promised.{batch_of, Still, Ends}
 use Rattle.flat_batch.proofs.Turning.{further}
-use Rattle.flat_batch.proofs.Progress.{Progress, at_start, at_end, left, one_more}
+use Rattle.flat_batch.proofs.Progress.{Progress, at_start, at_end, one_more}
 use Rattle.report_bytes.specs.Reports.{report_in}
 use Rattle.report_bytes.proofs.NumberBytes.{numbers_long, report_in_lem, bytes_over}
 use Rattle.batch_bytes.specs.Promised.{BytesAnswers}

@@ -4,8 +4,7 @@ ghost use Rattle.fenuschia_c.specs.Reported.{Reported};
 
 // The reports, five numbers each, one after the other to the fresh port of the file's table: three numbers each to the
 // answers, three for each departure to the departures. Answers 0, or 1 to 7 or 23 of the reader, 19 or 20, and then writes to no byte.
-#[unsafe(no_mangle)]
-pub extern "C" fn fenuschia_batch(
+pub fn fenuschia_batch(
     file: &[u8],
     reports: &[u8],
     answers: &mut [u8],

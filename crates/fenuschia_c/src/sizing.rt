@@ -20,8 +20,7 @@ fn put_eight(out: &mut [u8], at: usize, numbers: [u32; 8])
 
 // Writes 32 numbers to the output: eight bounds, eight holds, eight windows, eight sizes, priority 0 first; what is behind them stays.
 // Answers 0, or 1 to 7 or 23 of the reader, 8 if the table has no bounds, 9 if the output is shorter, and then writes to no byte.
-#[unsafe(no_mangle)]
-pub extern "C" fn fenuschia_sizing(file: &[u8], out: &mut [u8]) -> u32
+pub fn fenuschia_sizing(file: &[u8], out: &mut [u8]) -> u32
     ensures { Sized (sizing_file file.now out.old) result out.new }
 {
     let reading = table_file::read(file);

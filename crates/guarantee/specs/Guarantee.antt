@@ -1,5 +1,5 @@
 -- Demand 3 and the counts in the numbers that a user holds: those of the records that `bounds_of` and `sums_of` gave.
-use Rattle.std.specs.Prelude.{◌≡◌, true, List, ℕ, get_or}
+use Rattle.std.specs.Prelude.{◌≡◌, true, List, get_or}
 use Rattle.model.specs.Bounds.{sizing}
 use Rattle.model.specs.Sums.{sums}
 use Rattle.model.specs.Run.{Entry, DemandBy, frames_reported}

@@ -1,19 +1,17 @@
 -- What the call comes to: refused, each report refused with 10, or answered.
-use mathlib.Core.Path.{◌≡◌, refl, sym, ap, ◌∙◌}
+use mathlib.Core.Path.{◌≡◌, refl, sym, ◌∙◌}
 use mathlib.Core.Bool.{true, false}
-use mathlib.Core.List.{List, [], flat_map}
+use mathlib.Core.List.{List}
 use Prim.Native.Nat.{ℕ, zero, suc, ◌*◌, ◌/◌, ◌≤◌}
-use native.Mathlib.Omega.{arith}
 use lib.ListN.{length}
-use Rattle.model.specs.Fitness.{fit}
-use Rattle.model.specs.Batch.{reports_in, batch_refusal, BatchOutcome, batch_or, answer_batch, over}
+use Rattle.model.specs.Batch.{reports_in, batch_refusal, batch_or, answer_batch, over}
 use Rattle.port_queue_fitness.specs.declared.Fitness.{Fitness}
 use Rattle.port_record_fitness.specs.Fitness.{port_fitness}
 use Rattle.port.specs.declared.Port.{Port as PortRecord}
 use Rattle.port.specs.View.{view_port_table, view_port}
 use Rattle.port.proofs.Refused.{fits_is, frames_are}
 use Rattle.port_batch.specs.declared.Batched.{Batched as BatchedRecord}
-use Rattle.port_batch.specs.Promised.{batch_from, outcome_from, Gives, Batches, Fit, Answered, unfit}
+use Rattle.port_batch.specs.Promised.{outcome_from, Batches, Fit, Answered, unfit}
 use Rattle.port_batch.proofs.Refusing.{has_room, untouched, unfit_batch, report_count}
 
 module _ (p : PortRecord) (reports answers list : List ℕ) {n : ℕ} (e : n ≡ batch_refusal reports (length answers)) where

@@ -1,22 +1,20 @@
 -- The refusals of a batch; and a batch each of whose reports is refused.
 use mathlib.Core.Path.{◌≡◌, refl, sym, ap, ◌∙◌}
-use mathlib.Core.Bool.{Bool, true, false, not}
+use mathlib.Core.Bool.{true, false, not}
 use mathlib.Core.List.{List, [], ◌∷◌, ◌++◌, flat_map}
 use Prim.Native.Nat.{ℕ, zero, suc, ◌+◌, ◌*◌, ◌/◌, ◌%◌, ◌≤◌, ◌<◌}
 use native.Mathlib.Omega.{arith}
-use lib.Dec.{ltb}
 use borrow.Author.Tests.{lt-ltb, le-ltb, ltb-false}
-use lib.ListN.{length, get_or, set, take, drop, length-drop, length-append}
-use Rattle.model.specs.Basics.{Each, done, also, check, first_met}
+use lib.ListN.{length, get_or, set, drop, length-drop}
+use Rattle.model.specs.Basics.{done, also, check, first_met}
 use Rattle.model.specs.Table.{Table}
 use Rattle.model.specs.Port.{Port}
 use Rattle.model.specs.Fitness.{fit}
-use Rattle.model.specs.Report.{Report, Stepped, Call, refusal, accepted_or, report_refusal, step}
-use Rattle.model.specs.Run.{Entry}
+use Rattle.model.specs.Report.{Report, Call, refusal, accepted_or, report_refusal, step}
 use Rattle.model.specs.Batch.{reports_in, are_reports, answers_check, batch_refusal, Batched, batch, answer_numbers, departure_numbers, frames_freed, over}
 use Rattle.model.proofs.Checks.{first_here, first_later, first_none, none_met}
 use Rattle.model.proofs.Refusals.{refusal_unfit}
-use Rattle.model.proofs.Reports.{report_next, known_form, unknown_form, no_report, none_left, odd_length}
+use Rattle.model.proofs.Reports.{known_form, unknown_form, none_left, odd_length}
 use Rattle.model.proofs.Batches.{over_more}
 use Rattle.port_scheduler.proofs.Departed.{three_set}
 use Rattle.flat_batch.specs.Promised.{AllRefused}

@@ -2,51 +2,46 @@
 use mathlib.Core.Path.{◌≡◌, refl, sym, ap, ◌∙◌}
 use mathlib.Core.Bool.{true, false}
 use mathlib.Core.Option.{Option, none, some}
-use mathlib.Core.List.{List, [], ◌∷◌, map, flat_map}
-use Prim.Native.Nat.{ℕ, zero, suc, ◌+◌, ◌*◌, ◌/◌, ◌%◌, ◌≤◌, ◌<◌}
+use mathlib.Core.List.{List, [], ◌∷◌, map}
+use Prim.Native.Nat.{ℕ, zero, suc, ◌*◌, ◌≤◌}
 use native.Mathlib.Omega.{arith}
 use borrow.Author.Tests.{eqb-true, leb-true}
-use lib.ListN.{length, get_or, drop, replicate, length-map, get_or-replicate, length-replicate}
-use Rattle.model.specs.Basics.{Each, done, also, entries}
-use Rattle.model.specs.Units.{most_frames}
+use lib.ListN.{length, get_or, drop, replicate, get_or-replicate, length-replicate}
+use Rattle.model.specs.Basics.{Each, done, also}
 use Rattle.model.specs.Link.{place_of, link_at}
 use Rattle.model.specs.Table.{Table, table_refusal}
-use Rattle.model.specs.Machine.{Frame, at, queue_of, held as heldBytes, frames_held}
-use Rattle.model.specs.Port.{Account, Port, blank_account, mark_of}
+use Rattle.model.specs.Machine.{Frame, queue_of}
+use Rattle.model.specs.Port.{Account}
 use Rattle.model.specs.Fitness.{names_link, fit}
-use Rattle.model.specs.Batch.{Batched, reports_in, batch, BatchOutcome, batch_or, departure_numbers, frames_freed, over}
+use Rattle.model.specs.Batch.{reports_in, batch_or}
 use Rattle.model.proofs.Checks.{all_true}
 use Rattle.model.proofs.Stepping.{Placed, placed}
 use Rattle.model.proofs.Passing.{Passing}
 use Rattle.model.proofs.Lined.{Lined, over as lined-over, next}
 use Rattle.model.proofs.Fitness.{FitPort, fit_is}
 use Rattle.table.specs.declared.Table.{Table as TableRecord}
-use Rattle.table.specs.View.{view_links, view_table}
+use Rattle.table.specs.View.{view_table}
 use Rattle.table.proofs.Shape.{count_shown}
 use Rattle.table.proofs.PassingRecord.{counts_pass}
 use Rattle.port_policing.specs.declared.Account.{Account as AccountRecord}
 use Rattle.port_policing.specs.Check.{view_account, record_account}
-use Rattle.port_policing.specs.Gate.{view_gate}
 use Rattle.port_scheduler.specs.declared.Queue.{Queue}
-use Rattle.port_scheduler.specs.View.{view_queues, view_marks, view_sender}
+use Rattle.port_scheduler.specs.View.{view_queues}
 use Rattle.port_scheduler.proofs.Shown.{queue_count}
 use Rattle.port.specs.declared.Port.{Port as PortRecord}
 use Rattle.port.specs.View.{view_port_table, view_port}
 use Rattle.port.proofs.Whole.{Whole}
 use Rattle.flat_queues.specs.View.{rings_of}
-use Rattle.flat_policing.specs.Accounts.{accounts_of}
-use Rattle.flat_scheduler.specs.Promised.{Flat, Holds}
 use Rattle.flat_scheduler.proofs.Rings.{ring_count}
 use Rattle.flat_table.specs.View.{view_words}
-use Rattle.flat_record.specs.Promised.{AccountsPut, AccountsRead, CountsPut, CountsRead, QueuesFit, QueuesPut, QueuesRead, RingLists, RingsFit, Narrow}
+use Rattle.flat_record.specs.Promised.{AccountsPut, AccountsRead, CountsPut, CountsRead, QueuesFit, QueuesPut, QueuesRead, RingsFit, Narrow}
 use Rattle.flat_record.proofs.Rows.{counts_stay as stay}
 use Rattle.flat_port.specs.declared.State.{State}
-use Rattle.flat_port.specs.Lists.{Lists, lists, queues_in, view_lists, view_state, Sized, Stands}
+use Rattle.flat_port.specs.Lists.{Lists, lists, queues_in, view_state, Stands}
 use Rattle.flat_batch.specs.declared.Ran.{Ran}
-use Rattle.flat_batch.specs.Promised.{batch_of, AllRefused, Ends, Answers}
-use Rattle.port_batch.specs.declared.Batched.{Batched as BatchedRecord}
-use Rattle.port_batch.specs.Promised.{batch_from, Gives, Fit, Answered}
-use Rattle.port_batch.proofs.Refusing.{Untouched, untouched}
+use Rattle.flat_batch.specs.Promised.{batch_of, Ends, Answers}
+use Rattle.port_batch.specs.Promised.{batch_from, Fit, Answered}
+use Rattle.port_batch.proofs.Refusing.{untouched}
 
 -- the links of a fit record are not more than its arrays
 pub fit_few : {p : PortRecord} {holding : ℕ} → Fit p holding → p.table.count ≤ 256

@@ -1,10 +1,8 @@
 -- What the batch promises.
-use Rattle.std.specs.Prelude.{◌≡◌, true, List, ◌∷◌, [], ℕ, zero, suc, ◌*◌, length, drop, replicate}
+use Rattle.std.specs.Prelude.{◌≡◌, true, List, ◌∷◌, [], ℕ, zero, suc, ◌*◌, drop}
 use Rattle.model.specs.Machine.{frames_held}
 use Rattle.model.specs.Fitness.{fit}
-use Rattle.model.specs.Report.{Report}
-use Rattle.model.specs.Run.{Entry}
-use Rattle.model.specs.Batch.{reports_in, Batched, batch, BatchOutcome, answer_batch, batch_or, over}
+use Rattle.model.specs.Batch.{reports_in, Batched, batch, BatchOutcome, answer_batch, batch_or}
 use Rattle.port_scheduler.specs.View.{view_queues}
 use Rattle.port.specs.declared.Port.{Port as PortRecord}
 use Rattle.port.specs.View.{view_port_table, view_port}

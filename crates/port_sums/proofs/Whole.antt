@@ -1,13 +1,12 @@
 -- The sums of a whole record, by the parts that the code asks.
 use mathlib.Core.Path.{◌≡◌, ap, subst}
-use mathlib.Core.Bool.{Bool, true, false}
+use mathlib.Core.Bool.{true, false}
 use Prim.Native.Nat.{ℕ}
 use native.Mathlib.Omega.{arith}
 use lib.Dec.{leb}
 use lib.ListN.{length, replicate}
-use Rattle.model.specs.Basics.{provided}
 use Rattle.model.specs.Units.{full_count}
-use Rattle.model.specs.Counters.{Counters, none_full, every_count}
+use Rattle.model.specs.Counters.{every_count}
 use Rattle.model.specs.Fitness.{fit}
 use Rattle.model.specs.Sums.{sums_if, sums}
 use Rattle.model.proofs.Entries.{entries_blank}

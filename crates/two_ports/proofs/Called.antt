@@ -5,7 +5,7 @@ use lib.ListN.{length, length-map, replicate}
 use Rattle.model.specs.Table.{Table, size_checks, table_refusal}
 use Rattle.model.specs.Bounds.{bounds_refusal}
 use Rattle.model.specs.Run.{History}
-use Rattle.model.specs.NextTable.{next_link, next_links, next_table, next_refusal, next}
+use Rattle.model.specs.NextTable.{next_link, next_links, next_table, next_refusal}
 use Rattle.model.proofs.Checks.{first_none}
 use Rattle.model.proofs.TableFacts.{sizes_unmet}
 use Rattle.model.proofs.Holds.{has_bounds}

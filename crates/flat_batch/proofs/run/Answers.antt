@@ -31,7 +31,7 @@ pub put-requires : goal.put-requires
 put-requires c = omega (arith, c.loop-i-test.true, c.loop-i.invariant.reports_short, c.loop-i.invariant.enough, c.loop-i.invariant.answers_long)
 
 pub overflow_add-written : goal.overflow_add-written
-overflow_add-written c = omega (arith, c.loop-i.invariant.list_short, c.loop-i.invariant.list_long, room_after c.loop-i.invariant (omega (arith, c.loop-i-test.true)) c.report_at-report.ensures c.report-a.ensures refl (omega (arith, c.list-1.given)))
+overflow_add-written c = omega (arith, c.loop-i.invariant.list_short, c.loop-i.invariant.list_long, room_after c.loop-i.invariant (omega (arith, c.loop-i-test.true)) c.report_at-report.ensures c.report-a.ensures refl (omega arith))
 
 pub overflow_add-i : goal.overflow_add-i
 overflow_add-i c = omega (arith, c.loop-i-test.true, c.loop-i.invariant.reports_short)
@@ -40,7 +40,7 @@ pub loop-i-smaller : goal.loop-i-smaller
 loop-i-smaller c = omega (arith, c.loop-i-test.true)
 
 pub loop-i-preserved : goal.loop-i-preserved
-loop-i-preserved c = turns c.loop-i.invariant (omega (arith, c.loop-i-test.true)) c.report_at-report.ensures c.report-a.ensures c.still-accepted.ensures c.u32_as_u64.ensures.0 c.u32_as_u64-in-loop-i.ensures.0 c.put.ensures refl (omega (arith, c.answers-1.given)) (omega (arith, c.list-1.given))
+loop-i-preserved c = turns c.loop-i.invariant (omega (arith, c.loop-i-test.true)) c.report_at-report.ensures c.report-a.ensures c.still-accepted.ensures c.u32_as_u64.ensures.0 c.u32_as_u64-in-loop-i.ensures.0 c.put.ensures refl (omega arith) (omega arith)
 
 pub shape_of-frames : goal.shape_of-frames
 shape_of-frames c = omega (arith, c.requires.1.sized.flat.frames_are, c.loop-i.invariant.progress.stands.sized.flat.frames_are)

@@ -1,5 +1,5 @@
--- `table_cases::same` is safe and ends: it stays within both texts. Assumes nothing.
-use Prim.Native.Nat.{◌≤◌, ◌-◌}
+-- `table_cases::same` is safe and ends. Assumes nothing.
+use Prim.Native.Nat.{◌-◌, ◌≤◌}
 use lib.ListN.{length}
 use Rattle.table_cases.proofs.same.Given as goal
 

@@ -1,5 +1,5 @@
--- `table_cases::sum` is safe and ends: it stays within the output. Assumes nothing.
-use Prim.Native.Nat.{◌≤◌, ◌-◌}
+-- `table_cases::sum` is safe and ends. Assumes nothing.
+use Prim.Native.Nat.{◌-◌, ◌≤◌}
 use Rattle.table_cases.proofs.sum.Given as goal
 
 abbrev pub invariant-loop-i : goal.invariant-loop-i
