@@ -5,7 +5,7 @@ use Prim.Native.Nat.{◌≤◌, ◌-◌}
 use Rattle.next_table.proofs.are_read.Given as goal
 
 abbrev pub invariant-loop-i : goal.invariant-loop-i
-invariant-loop-i l = (l.rt ≤ length l.n) × (length l.initial.i ≡ length l.n)
+invariant-loop-i l = (l.n ≤ length l.initial.numbers) × (length l.numbers ≡ length l.initial.numbers)
 
 abbrev pub decreases-loop-i : goal.decreases-loop-i
-decreases-loop-i l = l.rt - l.numbers
+decreases-loop-i l = l.n - l.i
