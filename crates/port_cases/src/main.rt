@@ -3,10 +3,9 @@
 // src/cases/port.rs has the form of a case.
 #![tactic(auto)]
 
-use case_records::STDIN_FILENO;
 use case_records::given::least;
 use case_records::rows::{number, print, say};
-use case_records::{record, sums};
+use case_records::{STDIN_FILENO, record, sums};
 use little_endian::{read2, read8};
 use port::{Answer, Port};
 use port_scheduler::Queue;

@@ -1,10 +1,9 @@
 // Two ports in a row.
-use case_records::STDIN_FILENO;
 use crate::reports::NUMBERS;
 use crate::{reports, tables};
 use case_records::given::least;
 use case_records::rows::{number, say};
-use case_records::{rows, sums};
+use case_records::{STDIN_FILENO, rows, sums};
 use little_endian::read2;
 use port::Port;
 use port_batch::Batched;
