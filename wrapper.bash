@@ -54,7 +54,7 @@ build() {
     command -v rt >/dev/null || fail "rt, the command of the Rattle kit, is not on the PATH"
     [ -x "$program" ] || echo "proving and building, once: some minutes" >&2
     began=$(date +%s.%N)
-    said=$(cd -- "$home" && rt run "$1" 2>&1 </dev/null) || fail "$said"
+    said=$(cd -- "$home/crates/$1" && rt run 2>&1 </dev/null) || fail "$said"
     touch -d "@$began" -- "$program"
 }
 

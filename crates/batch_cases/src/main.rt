@@ -9,7 +9,8 @@ ghost use Rattle.std.specs.Prelude.{◌≤◌};
 
 use case_records::given::least;
 use case_records::rows::{number, print, say};
-use case_records::{STDIN_FILENO, record, sums};
+use case_records::tables::STDIN_FILENO;
+use case_records::{record, sums};
 use lists::{NUMBERS, ROOM};
 use little_endian::read2;
 use port::Port;

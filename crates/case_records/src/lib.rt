@@ -7,8 +7,3 @@ pub mod record;
 pub mod rows;
 pub mod sums;
 pub mod tables;
-
-// The files that a program begins with.
-pub const STDIN_FILENO: i32 = 0;
-
-pub const STDOUT_FILENO: i32 = 1;

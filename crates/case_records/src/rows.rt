@@ -2,8 +2,10 @@
 ghost use Rattle.std.specs.Prelude.{◌≡◌, ◌/◌, min, length};
 ghost use Rattle.io.specs.Digits.{IsDigitCount};
 
-use crate::STDOUT_FILENO;
 use crate::given::least;
+
+// The file that a program begins with for its output.
+const STDOUT_FILENO: i32 = 1;
 
 pub fn say(text: &[u8]) -> usize
     ensures { result ≡ length text.now }

@@ -1,11 +1,13 @@
 // Table records: read from standard input, and printed.
 ghost use Rattle.std.specs.Prelude.{◌≡◌, ◌<◌, min};
 
-use crate::STDIN_FILENO;
 use crate::given::least;
 use crate::record::table_at;
 use crate::rows::{number, print, say};
 use table::{Table, VirtualLink};
+
+// The file that a program begins with for its input.
+pub const STDIN_FILENO: i32 = 0;
 
 // The longest table record: 256 links, each of 13 bytes, with 51 besides.
 const RECORD: usize = 3379;

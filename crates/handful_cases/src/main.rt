@@ -2,11 +2,10 @@
 // hands out and what is sold of each line. What it must print was computed by reference/, whose src/cases/handful.rs has the form of a case.
 #![tactic(auto)]
 
-use case_records::STDIN_FILENO;
 use case_records::given::least;
 use case_records::rows::{number, say};
 use case_records::sums::of_table;
-use case_records::tables::{say_counts, say_links, take};
+use case_records::tables::{STDIN_FILENO, say_counts, say_links, take};
 use little_endian::read2;
 use table::Table;
 

@@ -2,9 +2,8 @@
 // two numbers. What it must print was computed by reference/, whose src/cases/jitter.rs has the form of a case.
 #![tactic(auto)]
 
-use case_records::STDIN_FILENO;
 use case_records::rows::{number, print, say};
-use case_records::tables::take;
+use case_records::tables::{STDIN_FILENO, take};
 use little_endian::{read2, read8};
 
 // The bytes before those of a table record.

@@ -5,7 +5,8 @@
 
 use case_records::given::least;
 use case_records::rows::{number, print, say};
-use case_records::{STDIN_FILENO, record, sums};
+use case_records::tables::STDIN_FILENO;
+use case_records::{record, sums};
 use little_endian::{read2, read8};
 use port::{Answer, Port};
 use port_scheduler::Queue;

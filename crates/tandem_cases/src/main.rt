@@ -6,9 +6,8 @@ mod ports;
 mod reports;
 mod tables;
 
-use case_records::STDIN_FILENO;
 use case_records::rows::{number, say};
-use case_records::tables::{say_counts, say_links, take};
+use case_records::tables::{STDIN_FILENO, say_counts, say_links, take};
 use little_endian::{read2, read8};
 
 // The bytes before those of a table record.

@@ -1,8 +1,8 @@
 // Reports of a case, five numbers each.
 ghost use Rattle.std.specs.Prelude.{◌+◌, ◌≤◌, length};
 
-use case_records::STDIN_FILENO;
 use case_records::given::least;
+use case_records::tables::STDIN_FILENO;
 use little_endian::{read1, read2, read8};
 
 // The numbers of 80 reports.

@@ -1,3 +1,4 @@
+-- `port_bench::reported` is safe and ends. Assumes nothing.
 use Prim.Native.Nat.{◌+◌, ◌-◌, ◌≤◌}
 use Rattle.port_bench.proofs.reported.Given as goal
 

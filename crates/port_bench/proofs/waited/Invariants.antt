@@ -1,3 +1,4 @@
+-- `port_bench::waited` is safe and ends. Assumes nothing.
 use Prim.Native.Nat.{◌+◌, ◌-◌, ◌≤◌}
 use Rattle.port_bench.proofs.waited.Given as goal
 

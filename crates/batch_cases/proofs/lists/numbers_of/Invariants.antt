@@ -1,11 +1,10 @@
--- `batch_cases::lists::numbers_of` is safe and ends: it stays within the list. Assumes nothing.
-use Prim.Native.Nat.{◌≤◌, ◌-◌}
-use mathlib.Core.Path.{◌≡◌}
+-- `batch_cases::lists::numbers_of` is safe and ends. Assumes nothing.
+use Prim.Native.Nat.{◌-◌, ◌≤◌}
 use lib.ListN.{length}
 use Rattle.batch_cases.proofs.lists.numbers_of.Given as goal
 
 abbrev pub invariant-loop-i : goal.invariant-loop-i
-invariant-loop-i l = (l.i ≤ length l.initial.list) × (length l.list ≡ length l.initial.list) × (length l.initial.list ≤ 6400)
+invariant-loop-i l = (l.i ≤ length l.list) × (length l.list ≤ 6400)
 
 abbrev pub decreases-loop-i : goal.decreases-loop-i
-decreases-loop-i l = length l.initial.list - l.i
+decreases-loop-i l = length l.list - l.i
