@@ -48,6 +48,7 @@ pub fn still(accepted: bool, refused: u32) -> bool
 }
 
 // One report after the other, each lent the rest of the departure list.
+#[inline(never)]
 pub fn run(
     words: &[u64],
     numbers: &[u16],

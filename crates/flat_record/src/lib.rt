@@ -47,6 +47,7 @@ pub fn accounts_of(credits: &[u64], since: &[u64]) -> [Account; 256]
 }
 
 // The counts of the links, four each, and that of unknown numbers, into a list that has five numbers a link.
+#[inline(never)]
 pub fn put_counts(counts: [u64; 1024], unknown: u64, tallies: &mut [u64])
     requires { length tallies.old ≡ 1281 }
     ensures { CountsPut counts unknown tallies.new }
@@ -65,6 +66,7 @@ pub fn put_counts(counts: [u64; 1024], unknown: u64, tallies: &mut [u64])
 }
 
 // The counts of the links in such a list.
+#[inline(never)]
 pub fn counts_of(tallies: &[u64]) -> [u64; 1024]
     requires { length tallies.now ≡ 1281 }
     ensures { CountsRead tallies.now result }
@@ -101,6 +103,7 @@ fn put_queue(q: Queue, p: usize, frames: &mut [u64], heads: &[u64], counts: &mut
 }
 
 // The queues into rings whose heads are at place 0, what each of them holds, and their marks.
+#[inline(never)]
 pub fn put_queues(
     queues: [Queue; 8],
     frames: &mut [u64],
@@ -160,6 +163,7 @@ fn queue_of(frames: &[u64], p: usize, head: u64, count: u64, mark: u64) -> Queue
 }
 
 // The rings and their marks as queues.
+#[inline(never)]
 pub fn queues_of(frames: &[u64], heads: &[u64], counts: &[u64], marks: &[u64]) -> [Queue; 8]
     requires { RingsFit frames.now heads.now counts.now marks.now }
     ensures { QueuesRead frames.now heads.now counts.now marks.now result }

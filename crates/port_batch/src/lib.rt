@@ -18,6 +18,7 @@ pub struct Batched {
 
 // Reports are five numbers each: form (0 a wait, 1 a frame), tick, line, number, length. Three numbers are written for
 // each: refusal or 0, verdict, frames freed. The departures of all follow one another in the list, three numbers each.
+#[inline(never)]
 pub fn batch(port: Port, reports: &[u64], answers: &mut [u64], list: &mut [u64]) -> Batched
     ensures { Batches port reports.now answers.old answers.new list.old list.new result }
 {

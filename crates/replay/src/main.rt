@@ -79,7 +79,7 @@ fn answered(t: Table, fd: &mut File) -> u8 {
         refuse(refused as u64);
         return state;
     }
-    parts::replay(fresh_port(t), fd)
+    parts::replay(t, fd)
 }
 
 // Whether the file could be put back to its first byte.
@@ -91,7 +91,8 @@ fn is_at_start(fd: &mut File) -> bool {
 }
 
 // Apart from its caller, so that what holds the fresh port is gone when the reports run.
-fn fresh_port(t: Table) -> Port {
+#[inline(never)]
+pub(crate) fn fresh_port(t: Table) -> Port {
     let start = Port::fresh(t);
     start.port
 }

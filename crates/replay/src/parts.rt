@@ -2,11 +2,12 @@
 ghost use Rattle.std.specs.Prelude.{◌≤◌, length};
 
 use crate::answers::{GIVEN, LIST};
-use crate::{answers, counts};
+use crate::{answers, counts, fresh_port};
 use little_endian::read8;
 use output::{Out, ROOM, STDOUT_FILENO};
 use port::Port;
 use std::fs::File;
+use table::Table;
 
 const REPORT: usize = 40;
 
@@ -95,7 +96,9 @@ pub(crate) fn check(fd: &mut File) -> u8 {
 
 // Runs every report, part by part, and prints what the queues hold at the end, then the counts. A file that is not what it
 // was when it was checked counts as one that can't be read.
-pub(crate) fn replay(mut port: Port, fd: &mut File) -> u8 {
+#[inline(never)]
+pub(crate) fn replay(t: Table, fd: &mut File) -> u8 {
+    let mut port = fresh_port(t);
     let mut room = [0u8; ROOM];
     let mut bytes = [0u8; PART];
     let mut numbers = [0u64; NUMBERS];
@@ -132,6 +135,7 @@ fn put_numbers(bytes: &[u8; PART], n: usize, numbers: &mut [u64])
     }
 }
 
+#[inline(never)]
 fn finished(out: Out, room: &mut [u8; ROOM], port: Port, state: u8) -> Out {
     if state != ENDED {
         return out.written(room);
