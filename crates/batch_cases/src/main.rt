@@ -3,68 +3,54 @@
 #![tactic(auto)]
 
 mod lists;
-mod rows;
 
 ghost use Rattle.std.specs.Prelude.{◌≤◌};
 
-use case_records::given::least;
-use case_records::rows::{number, print, say};
-use case_records::tables::STDIN_FILENO;
+use case_records::rows::print_rows;
 use case_records::{record, sums};
 use lists::{NUMBERS, ROOM};
-use little_endian::read2;
+use little_endian::LittleEndian;
 use port::Port;
 use port_batch::Batched;
+use refusal::{Refusal, number_or_0};
+use std::io::{Read, Result};
 
 // The bytes before those of a file or record.
 const HEAD: usize = 12;
 
-fn main() {
-    // Nothing says that the input ends, so the loop counts down, from a number that no run uses up.
-    let mut turns = u64::MAX;
-    while turns > 0 && next_case() {
-        turns -= 1;
-    }
+fn main(rt: HostRuntime) {
+    cases::run(|| next_case(&rt));
 }
 
-// Reads a case and prints its lines; false where the input ends.
-fn next_case() -> bool {
+// Reads a case and prints its lines; an error where the input ends.
+fn next_case(rt: &HostRuntime) -> Result<()> {
     let mut head = [0u8; HEAD];
-    if io::read_full(STDIN_FILENO, &mut head) < HEAD {
-        return false;
-    }
+    rt.stdin().read_exact(&mut head)?;
     let mut start = [0u8; ROOM];
-    let n = take(read2(&head, 1), &mut start);
+    let n = take(rt, u16::read(&head, 1), &mut start);
     let mut reports = [0u8; ROOM];
-    let k = take(read2(&head, 3), &mut reports);
-    run(&head, &start, n, &reports, k);
-    true
+    let k = take(rt, u16::read(&head, 3), &mut reports);
+    run(rt, &head, &start[..n], &reports[..k])
 }
 
 // Reads bytes to the start of a buffer; how many there are.
-fn take(length: u16, bytes: &mut [u8]) -> usize {
-    let n = io::count(length as isize, bytes);
-    io::read_full(STDIN_FILENO, &mut bytes[..n]);
+fn take(rt: &HostRuntime, length: u16, bytes: &mut [u8; ROOM]) -> usize
+    ensures { result ≤ 51200 }
+{
+    let n = usize::from(length).min(ROOM);
+    let _ = rt.stdin().read_exact(&mut bytes[..n]);
     n
 }
 
 // A port record, or a table file and, where it is not refused, its fresh port.
-fn run(head: &[u8; HEAD], start_room: &[u8], n: usize, reports_room: &[u8], k: usize) {
-    let start_end = least(n, start_room.len());
-    let start = &start_room[0..start_end];
-    let reports_end = least(k, reports_room.len());
-    let reports = &reports_room[0..reports_end];
+fn run(rt: &HostRuntime, head: &[u8; HEAD], start: &[u8], reports: &[u8]) -> Result<()> {
     if head[0] == 2 {
-        call_twice(head, record::port_of(start), reports);
-        return;
+        return call_twice(rt, head, record::port_of(start), reports);
     }
-    call_c(head, start, reports);
-    let reading = table_file::read(start);
-    if reading.refused == 0 {
-        let t = reading.table;
-        let fresh = Port::fresh(t);
-        let port = fresh.port;
-        call_twice(head, port, reports);
+    call_c(rt, head, start, reports)?;
+    match table_file::read(start).and_then(Port::fresh) {
+        Ok(port) => call_twice(rt, head, port, reports),
+        Err(_) => Ok(()),
     }
 }
 
@@ -73,23 +59,27 @@ fn shows(head: &[u8; HEAD], bit: u8) -> bool {
     head[11] & bit != 0
 }
 
-fn call_c(head: &[u8; HEAD], file: &[u8], reports: &[u8]) {
+fn call_c(rt: &HostRuntime, head: &[u8; HEAD], file: &[u8], reports: &[u8]) -> Result<()> {
     let mut answers = [0u8; ROOM];
     lists::lay(&mut answers);
     let mut departures = [0u8; ROOM];
     lists::lay(&mut departures);
-    let a = read2(head, 5) as usize;
-    let d = read2(head, 7) as usize;
+    let a = usize::from(u16::read(head, 5));
+    let d = usize::from(u16::read(head, 7));
     let refused = in_bytes(file, reports, &mut answers, a, &mut departures, d);
-    let sum_a = sums::of_bytes(&answers, a);
-    let sum_d = sums::of_bytes(&departures, d);
-    say(b"c ");
-    print(refused as u64);
-    say(b"\n");
+    println!(rt; "c {refused}")?;
     if refused == 0 && shows(head, 1) {
-        show(&answers, &departures, reports.len() / 40);
+        let mut numbers = [0u64; NUMBERS];
+        lists::numbers_of(&answers, &mut numbers);
+        let mut list = [0u64; NUMBERS];
+        lists::numbers_of(&departures, &mut list);
+        show(rt, &numbers, &list, reports.len() / 40)?;
     }
-    say_sums(sum_a, sum_d);
+    print_sums(
+        rt,
+        sums::of_bytes(&answers, a),
+        sums::of_bytes(&departures, d),
+    )
 }
 
 // The C call, lent so many bytes of each list.
@@ -101,71 +91,70 @@ fn in_bytes(
     departures: &mut [u8],
     d: usize,
 ) -> u32 {
-    let n = least(a, answers.len());
-    let k = least(d, departures.len());
-    fenuschia_c::batch::fenuschia_batch(file, reports, &mut answers[0..n], &mut departures[0..k])
+    let n = a.min(answers.len());
+    let k = d.min(departures.len());
+    fenuschia_c::batch::fenuschia_batch(file, reports, &mut answers[..n], &mut departures[..k])
 }
 
-fn show(answers: &[u8], departures: &[u8], many: usize) {
-    let mut numbers = [0u64; NUMBERS];
-    lists::numbers_of(answers, &mut numbers);
-    let mut list = [0u64; NUMBERS];
-    lists::numbers_of(departures, &mut list);
-    rows::show(&numbers, &list, many);
+// So many answers, and the departures that they tell of.
+fn show(
+    rt: &HostRuntime,
+    answers: &[u64; NUMBERS],
+    list: &[u64; NUMBERS],
+    many: usize,
+) -> Result<()> {
+    print_rows(rt, answers, many)?;
+    print_rows(rt, list, lists::freed(answers, many))?;
+    Ok(())
 }
 
-fn say_sums(answers: u64, departures: u64) {
-    say(b"sums");
-    number(answers);
-    number(departures);
-    say(b"\n");
+fn print_sums(rt: &HostRuntime, answers: u64, departures: u64) -> Result<()> {
+    println!(rt; "sums {answers} {departures}")
 }
 
-// What two calls answered, and the port that the second handed back.
+// What two calls came to, how many reports they answered, and the port that the second handed back.
 #[derive(Clone, Copy)]
 struct Calls {
-    first: u32,
-    first_departures: u64,
-    second: u32,
-    second_departures: u64,
+    first: std::result::Result<u64, Refusal>,
+    second: std::result::Result<u64, Refusal>,
     answered: usize,
     port: Port,
 }
 
 // How many reports of a call are answered.
-fn answered(refused: u32, numbers: usize) -> usize
+fn answered(b: Batched, numbers: usize) -> usize
     ensures { result ≤ 6400 }
 {
-    if refused == 0 {
-        return least(numbers / 5, NUMBERS);
+    if b.outcome.is_err() {
+        return 0;
     }
-    0
+    (numbers / 5).min(NUMBERS)
 }
 
-fn all_answered(first: u32, k: usize, second: u32, rest: usize) -> usize {
-    answered(first, k) + answered(second, rest)
-}
-
-fn call_twice(head: &[u8; HEAD], port: Port, reports: &[u8]) {
+fn call_twice(rt: &HostRuntime, head: &[u8; HEAD], port: Port, reports: &[u8]) -> Result<()> {
     let mut numbers = [0u64; NUMBERS];
     lists::numbers_of(reports, &mut numbers);
     let mut answers = [0u64; NUMBERS];
     lists::lay_numbers(&mut answers);
     let mut list = [0u64; NUMBERS];
     lists::lay_numbers(&mut list);
-    let n = least(reports.len() / 8, NUMBERS);
-    let a = (read2(head, 5) / 8) as usize;
-    let d = (read2(head, 7) / 8) as usize;
-    let first = 5 * (read2(head, 9) as usize);
+    let n = (reports.len() / 8).min(NUMBERS);
+    let a = usize::from(u16::read(head, 5) / 8);
+    let d = usize::from(u16::read(head, 7) / 8);
+    let first = 5 * usize::from(u16::read(head, 9));
     let calls = two_calls(port, &numbers, first, n, &mut answers, a, &mut list, d);
-    let sum_a = sums::of_list(&answers, a);
-    let sum_d = sums::of_list(&list, d);
-    say_calls(calls);
+    let (c, e) = (calls.first, calls.second);
+    print!(rt; "calls {} {} ", number_or_0(c), c.unwrap_or(0))?;
+    println!(rt; "{} {}", number_or_0(e), e.unwrap_or(0))?;
     if shows(head, 2) {
-        rows::show(&answers, &list, calls.answered);
+        show(rt, &answers, &list, calls.answered)?;
     }
-    say_sums(sum_a, sum_d);
-    say_port(calls.port, shows(head, 4));
+    print_sums(rt, sums::of_list(&answers, a), sums::of_list(&list, d))?;
+    println!(rt;
+        "port {} {}",
+        calls.port.clock,
+        sums::of_port(calls.port, shows(head, 4))
+    )
 }
 
 // The first call takes some of the n numbers of reports, the second those behind them, on the port that the first handed back
@@ -180,14 +169,12 @@ fn two_calls(
     list: &mut [u64],
     d: usize,
 ) -> Calls {
-    let k = least(some, n);
-    let rest = n - k;
+    let k = some.min(n);
     let first = in_numbers(port, reports, 0, k, answers, 0, a, list, 0, d);
-    let middle = first.port;
-    let many = answered(first.refused, k);
-    let left = least(first.departures as usize, NUMBERS);
+    let many = answered(first, k);
+    let left = lists::place(first.outcome.unwrap_or(0));
     let second = in_numbers(
-        middle,
+        first.port,
         reports,
         k,
         n,
@@ -198,31 +185,12 @@ fn two_calls(
         3 * left,
         d,
     );
-    let last = second.port;
     Calls {
-        first: first.refused,
-        first_departures: first.departures,
-        second: second.refused,
-        second_departures: second.departures,
-        answered: all_answered(first.refused, k, second.refused, rest),
-        port: last,
+        first: first.outcome,
+        second: second.outcome,
+        answered: many + answered(second, n - k),
+        port: second.port,
     }
-}
-
-fn say_calls(c: Calls) {
-    say(b"calls");
-    number(c.first as u64);
-    number(c.first_departures);
-    number(c.second as u64);
-    number(c.second_departures);
-    say(b"\n");
-}
-
-fn say_port(port: Port, whole: bool) {
-    say(b"port");
-    number(port.clock);
-    number(sums::of_port(port, whole));
-    say(b"\n");
 }
 
 // The call on a port, with reports and lists from and to these places.
@@ -238,16 +206,13 @@ fn in_numbers(
     left: usize,
     d: usize,
 ) -> Batched {
-    let to_end = least(to, reports.len());
-    let begin = least(from, to_end);
-    let a_end = least(a, answers.len());
-    let a_begin = least(at, a_end);
-    let d_end = least(d, list.len());
-    let d_begin = least(left, d_end);
+    let to_end = to.min(reports.len());
+    let a_end = a.min(answers.len());
+    let d_end = d.min(list.len());
     port_batch::batch(
         port,
-        &reports[begin..to_end],
-        &mut answers[a_begin..a_end],
-        &mut list[d_begin..d_end],
+        &reports[from.min(to_end)..to_end],
+        &mut answers[at.min(a_end)..a_end],
+        &mut list[left.min(d_end)..d_end],
     )
 }

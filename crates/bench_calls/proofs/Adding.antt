@@ -1,75 +1,101 @@
--- Sums of a list, one element more at a time; and what a bench's call gives.
-use mathlib.Core.Path.{◌≡◌, refl, ap, ◌∙◌}
-use mathlib.Core.List.{List, [], ◌∷◌, ◌++◌}
-use Prim.Native.Nat.{ℕ, zero, suc, ◌+◌, ◌-◌, ◌<◌, ◌≤◌}
+-- What a bench's call gives.
+use mathlib.Core.Path.{◌≡◌, refl, sym, ap, ◌∙◌}
+use mathlib.Core.List.{List}
+use Prim.Native.Nat.{ℕ, zero, suc, ◌+◌}
 use native.Mathlib.Omega.{arith}
-use lib.ListN.{length, get_or, take, replicate}
-use lib.Seq.{take_all}
-use Rattle.model.specs.Bounds.{sizing}
-use Rattle.model.specs.JitterMargin.{margin}
-use Rattle.model.specs.OverloadCore.{core}
+use lib.ListN.{length}
+use Rattle.std.proofs.Common.{rules, replicate}
+use Rattle.std.specs.Prelude.{Result, Ok, Err, sum}
+use Rattle.std.specs.Result.{result_unwrap_or}
+use Rattle.model.specs.Basics.{first_refusal, first_met, all_hold}
+use Rattle.model.specs.JitterMargin.{Margin, margin, margin_or, margin_refusal}
+use Rattle.model.specs.OverloadCore.{core, core_or, core_refusal}
+use Rattle.model.specs.Table.{Table, blank_table, table_refusal, table_checks, counts_in_range}
+use Rattle.model.specs.Bounds.{Sizing, sizing, sized_or, bounds_refusal}
 use Rattle.model.specs.TableFile.{read_table}
-use Rattle.table_file.specs.declared.Reading.{Reading as ReadingRecord}
+use Rattle.refusal.specs.declared.Refusal.{Refusal}
+use Rattle.table.specs.declared.Table.{Table as TableRecord}
 use Rattle.table.specs.View.{view_table, record_table}
-use Rattle.table_file.specs.Answers.{record_reading}
+use Rattle.table.proofs.Shown.{blank_shown}
+use Rattle.table_file.specs.Answers.{Reading, reading_of, record_reading}
 use Rattle.table_file.proofs.Back.{read_shown}
-use Rattle.bounds.specs.declared.Bounds.{Bounds as BoundsRecord}
-use Rattle.bounds.specs.Answer.{record_bounds}
-use Rattle.jitter_margin.specs.declared.Margin.{Margin as MarginRecord}
-use Rattle.jitter_margin.specs.Answer.{record_margin}
-use Rattle.overload_core.specs.declared.Core.{Core as CoreRecord}
-use Rattle.overload_core.specs.Answer.{record_core}
-use Rattle.sheet_numerals.specs.declared.Text.{Text}
-use Rattle.sheet_numerals.specs.Fixed.{text_room, record_text}
-use Rattle.bench_calls.specs.Sums.{sum, sizing_sum}
+use Rattle.bounds.specs.declared.Bounds.{Bounds}
+use Rattle.bounds.specs.Answer.{sizing_of}
+use Rattle.jitter_margin.specs.Answer.{margin_of}
+use Rattle.overload_core.specs.Answer.{Core as CoreRecord, core_of, record_core}
+use Rattle.bench_calls.specs.Sums.{sizing_sum}
 
-pub sum_none : (l : List ℕ) → 0 ≡ sum (take 0 l)
-unfolding sum
-sum_none l = refl
+-- the table of a file, also where it is refused
+abbrev table_of : Result TableRecord Refusal → Table
+table_of r = view_table (reading_of r).table
 
-pub sum_more : (l : List ℕ) (i : ℕ) → i < length l → sum (take (i + 1) l) ≡ sum (take i l) + get_or l i 0
-unfolding sum
-sum_more [] i h = absurd (omega arith)
-sum_more (n ∷ l) zero h = omega arith
-sum_more (n ∷ l) (suc i) h = let e : suc i + 1 ≡ suc (i + 1) = omega arith in rw e (omega (arith, sum_more l i (omega arith)))
+pub table_is : (file : List ℕ) (r : Result TableRecord Refusal) → reading_of r ≡ record_reading (read_table file) → table_of r ≡ (read_table file).table
+table_is file r e = ap (λ (x : Reading). view_table x.table) e ∙ read_shown file
 
-pub sum-all : (l : List ℕ) (i : ℕ) → length l ≤ i → sum (take i l) ≡ sum l
-sum-all l i h = ap sum (take_all i l h)
+blank_refused : bounds_refusal blank_table ≡ 3
+unfolding bounds_refusal first_met table_checks counts_in_range all_hold
+blank_refused = refl
+
+blank_fails : table_refusal blank_table ≡ 3
+unfolding table_refusal first_met table_checks counts_in_range all_hold
+blank_fails = refl
+
+-- of a refused file it is the blank one
+pub blank_is : (file : List ℕ) (r : Refusal) → reading_of (Err r) ≡ record_reading (read_table file) → (read_table file).table ≡ blank_table
+blank_is file r e = sym (table_is file (Err r) e) ∙ blank_shown
 
 -- ---- the bounds, holds and windows of a file
-pub sizing_is : (file : List ℕ) (r : ReadingRecord) (s : BoundsRecord) (b h w : ℕ) → r ≡ record_reading (read_table file) → s ≡ record_bounds (sizing (view_table r.table))
-    → b ≡ sum s.bounds → h ≡ sum s.holds → w ≡ sum s.windows → b + h + w ≡ sizing_sum (read_table file).table
+blank_sum : 0 ≡ sizing_sum blank_table
+unfolding sizing_sum sizing sized_or
+blank_sum = rw blank_refused (search rules)
+
+refused_sum : (t : Table) (r : Refusal) → sizing_of (Err r) ≡ sizing t → 0 ≡ sizing_sum t
 unfolding sizing_sum
-sizing_is file r s b h w e f p q o =
-    let same : view_table r.table ≡ (read_table file).table = ap (λ (x : ReadingRecord). view_table x.table) e ∙ read_shown file in
-    rw (p, q, o, f, same)
+refused_sum t r f = let none : 0 ≡ sum (replicate {A = ℕ} 8 0) + sum (replicate {A = ℕ} 8 0) + sum (replicate {A = ℕ} 8 0) = search rules in none ∙ ap (λ (x : Sizing). sum x.bounds + sum x.holds + sum x.windows) f
+
+pub file_refused : (file : List ℕ) (r : Refusal) → reading_of (Err r) ≡ record_reading (read_table file) → 0 ≡ sizing_sum (read_table file).table
+file_refused file r e = blank_sum ∙ ap sizing_sum (sym (blank_is file r e))
+
+pub bounds_refused : (file : List ℕ) (t : TableRecord) → reading_of (Ok t) ≡ record_reading (read_table file) → (r : Refusal) → sizing_of (Err r) ≡ sizing (view_table t) → 0 ≡ sizing_sum (read_table file).table
+bounds_refused file t e r f = refused_sum (read_table file).table r (f ∙ ap sizing (table_is file (Ok t) e))
+
+pub sizing_is : (file : List ℕ) (t : TableRecord) → reading_of (Ok t) ≡ record_reading (read_table file) → (s : Bounds) → sizing_of (Ok s) ≡ sizing (view_table t)
+    → sum s.bounds + sum s.holds + sum s.windows ≡ sizing_sum (read_table file).table
+unfolding sizing_sum
+sizing_is file t e s f = ap (λ (x : Sizing). sum x.bounds + sum x.holds + sum x.windows) (f ∙ ap sizing (table_is file (Ok t) e))
 
 -- ---- the jitter that is left in the table of a file
-pub margin_is : (file : List ℕ) (number : ℕ) (r : ReadingRecord) (m : MarginRecord) (j : ℕ) → r ≡ record_reading (read_table file) → m ≡ record_margin (margin (view_table r.table) number)
-    → j ≡ m.jitter → j ≡ (margin (read_table file).table number).jitter
-margin_is file number r m j e f q =
-    let same : view_table r.table ≡ (read_table file).table = ap (λ (x : ReadingRecord). view_table x.table) e ∙ read_shown file in
-    q ∙ rw (f, same)
+blank_margin : (number : ℕ) → 0 ≡ (margin blank_table number).jitter
+unfolding margin margin_or margin_refusal first_refusal
+blank_margin number = rw blank_fails
+
+pub margin_refused : (file : List ℕ) (r : Refusal) (number : ℕ) → reading_of (Err r) ≡ record_reading (read_table file) → 0 ≡ (margin (read_table file).table number).jitter
+margin_refused file r number e = blank_margin number ∙ ap (λ (t : Table). (margin t number).jitter) (sym (blank_is file r e))
+
+left_or_0 : (m : Result ℕ Refusal) → result_unwrap_or m 0 ≡ (margin_of m).jitter
+left_or_0 (Ok j) = refl
+left_or_0 (Err r) = refl
+
+pub margin_is : (file : List ℕ) (t : TableRecord) (number : ℕ) (m : Result ℕ Refusal) → reading_of (Ok t) ≡ record_reading (read_table file) → margin_of m ≡ margin (view_table t) number
+    → result_unwrap_or m 0 ≡ (margin (read_table file).table number).jitter
+margin_is file t number m e f = left_or_0 m ∙ ap (λ (x : Margin). x.jitter) f ∙ ap (λ (u : Table). (margin u number).jitter) (table_is file (Ok t) e)
 
 -- ---- how many links of the table of a file remain
-pub core_count : (file : List ℕ) (r : ReadingRecord) (c : CoreRecord) (n : ℕ) → r ≡ record_reading (read_table file) → c ≡ record_core (core (view_table r.table))
-    → n ≡ c.table.count → n ≡ length (core (read_table file).table).table.links
-unfolding record_table
-core_count file r c n e f q =
-    let same : view_table r.table ≡ (read_table file).table = ap (λ (x : ReadingRecord). view_table x.table) e ∙ read_shown file in
-    q ∙ rw (f, same)
+blank_core : 0 ≡ length (core blank_table).table.links
+unfolding core core_or core_refusal first_refusal
+blank_core = rw blank_fails
 
--- ---- the bytes of a text: those behind it are 0
-sum-append : (l m : List ℕ) → sum (l ++ m) ≡ sum l + sum m
-unfolding sum
-sum-append [] m = omega arith
-sum-append (n ∷ l) m = omega (arith, sum-append l m)
+pub core_refused : (file : List ℕ) (r : Refusal) → reading_of (Err r) ≡ record_reading (read_table file) → 0 ≡ length (core (read_table file).table).table.links
+core_refused file r e = blank_core ∙ ap (λ (t : Table). length (core t).table.links) (sym (blank_is file r e))
 
-sum_zeros : (n : ℕ) → sum (replicate n 0) ≡ 0
-unfolding sum
-sum_zeros zero = refl
-sum_zeros (suc n) = omega (arith, sum_zeros n)
+module _ (file : List ℕ) (t : TableRecord) (e : reading_of (Ok t) ≡ record_reading (read_table file)) where
+  count_is : (c : Result TableRecord Refusal) → core_of c ≡ record_core (core (view_table t)) → (core_of c).table.count ≡ length (core (read_table file).table).table.links
+  unfolding record_table
+  count_is c f = ap (λ (x : CoreRecord). x.table.count) f ∙ ap (λ (u : Table). length (core u).table.links) (table_is file (Ok t) e)
 
-pub text_sum : (t : Text) (l : List ℕ) → t ≡ record_text l → sum t.bytes ≡ sum l
-unfolding record_text
-text_sum t l e = rw e (omega (arith, sum-append l (replicate (text_room - length l) 0), sum_zeros (text_room - length l)))
+  pub core_is : (c : TableRecord) → core_of (Ok c) ≡ record_core (core (view_table t)) → c.count ≡ length (core (read_table file).table).table.links
+  core_is c f = count_is (Ok c) f
+
+  pub none_is : (r : Refusal) → core_of (Err r) ≡ record_core (core (view_table t)) → 0 ≡ length (core (read_table file).table).table.links
+  unfolding record_table
+  none_is r f = count_is (Err r) f

@@ -1,11 +1,7 @@
 -- Sums that a bench compares.
-use Rattle.std.specs.Prelude.{List, [], ◌∷◌, ℕ, ◌+◌}
+use Rattle.std.specs.Prelude.{ℕ, ◌+◌, sum}
 use Rattle.model.specs.Table.{Table}
 use Rattle.model.specs.Bounds.{sizing}
-
-unfoldable pub sum : List ℕ → ℕ
-sum [] = 0
-sum (n ∷ l) = n + sum l
 
 -- the blank table of a refused file is refused too, and has bounds, holds and windows of 0
 unfoldable pub sizing_sum : Table → ℕ

@@ -1,26 +1,29 @@
 // Calls that bench/ times: on byte slices and numbers.
 #![tactic(auto)]
 
-ghost use Rattle.std.specs.Prelude.{◌≡◌, ◌≤◌, ◌*◌, length};
+ghost use Rattle.std.specs.Prelude.{◌≡◌, ◌≤◌, ◌*◌, length, sum};
+ghost use Rattle.std.specs.Result.{result_unwrap_or};
 ghost use Rattle.model.specs.TableFile.{read_table};
 ghost use Rattle.model.specs.JitterMargin.{margin};
 ghost use Rattle.model.specs.OverloadCore.{core};
 ghost use Rattle.model.specs.Sheet.{sheet};
-ghost use Rattle.bench_calls.specs.Sums.{sum, sizing_sum};
+ghost use Rattle.bench_calls.specs.Sums.{sizing_sum};
 
-use numbers::{u8_as_u64, u16_as_u64, u32_as_u64};
-use sheet_numerals::ROOM;
+use refusal::Refusal;
 
-fn sum_of(a: [u32; 8]) -> u64
-    ensures { (result ≡ sum a) × (result ≤ 4294967295 * 8) }
+fn sum_of(a: &[u32]) -> u64
+    requires { length a.now ≤ 8 }
+    ensures { (result ≡ sum a.now) × (result ≤ 4294967295 * 8) }
 {
-    let mut total: u64 = 0;
-    let mut i: usize = 0;
-    while i < 8 {
-        total += u32_as_u64(a[i]);
-        i += 1;
-    }
-    total
+    a.iter().map(|&n| u64::from(n)).sum()
+}
+
+fn sizing(file: &[u8]) -> Result<u64, Refusal>
+    ensures { result_unwrap_or result 0 ≡ sizing_sum (read_table file.now).table }
+{
+    let t = table_file::read(file)?;
+    let s = bounds::bounds_of(t)?;
+    Ok(sum_of(&s.bounds) + sum_of(&s.holds) + sum_of(&s.windows))
 }
 
 // The sum of the bounds, holds and windows of the table of a file; 0 with a refusal.
@@ -28,25 +31,7 @@ fn sum_of(a: [u32; 8]) -> u64
 pub extern "C" fn bench_sizing(file: &[u8]) -> u64
     ensures { result ≡ sizing_sum (read_table file.now).table }
 {
-    let reading = table_file::read(file);
-    let t = reading.table;
-    let s = bounds::bounds_of(t);
-    let b = s.bounds;
-    let h = s.holds;
-    let w = s.windows;
-    sum_of(b) + sum_of(h) + sum_of(w)
-}
-
-fn byte_sum(a: [u8; ROOM]) -> u64
-    ensures { result ≡ sum a }
-{
-    let mut total: u64 = 0;
-    let mut i: usize = 0;
-    while i < ROOM {
-        total += u8_as_u64(a[i]);
-        i += 1;
-    }
-    total
+    sizing(file).unwrap_or(0)
 }
 
 // The sum of the bytes of the sheet of a file.
@@ -55,8 +40,21 @@ pub extern "C" fn bench_sheet(file: &[u8]) -> u64
     ensures { result ≡ sum (sheet file.now) }
 {
     let text = sheet_text::text_of(file);
-    let bytes = text.bytes;
-    byte_sum(bytes)
+    byte_sum(text.as_str().as_bytes())
+}
+
+fn byte_sum(bytes: &[u8]) -> u64
+    requires { length bytes.now ≤ 619 }
+    ensures { result ≡ sum bytes.now }
+{
+    bytes.iter().map(|&b| u64::from(b)).sum()
+}
+
+fn jitter(file: &[u8], number: u64) -> Result<u32, Refusal>
+    ensures { result_unwrap_or result 0 ≡ (margin (read_table file.now).table number).jitter }
+{
+    let t = table_file::read(file)?;
+    jitter_margin::jitter_left(t, number)
 }
 
 // The jitter that is left to the link of that number in the table of a file; 0 with a refusal.
@@ -64,10 +62,15 @@ pub extern "C" fn bench_sheet(file: &[u8]) -> u64
 pub extern "C" fn bench_jitter(file: &[u8], number: u64) -> u64
     ensures { result ≡ (margin (read_table file.now).table number).jitter }
 {
-    let reading = table_file::read(file);
-    let t = reading.table;
-    let left = jitter_margin::jitter_left(t, number);
-    u32_as_u64(left.jitter)
+    u64::from(jitter(file, number).unwrap_or(0))
+}
+
+fn kept(file: &[u8]) -> Result<u16, Refusal>
+    ensures { result_unwrap_or result 0 ≡ length (core (read_table file.now).table).table.links }
+{
+    let t = table_file::read(file)?;
+    let c = overload_core::core_of(t)?;
+    Ok(c.count)
 }
 
 // How many links of the table of a file remain, tried for removal while the table has no bounds; 0 with a refusal.
@@ -75,9 +78,5 @@ pub extern "C" fn bench_jitter(file: &[u8], number: u64) -> u64
 pub extern "C" fn bench_core(file: &[u8]) -> u64
     ensures { result ≡ length (core (read_table file.now).table).table.links }
 {
-    let reading = table_file::read(file);
-    let t = reading.table;
-    let c = overload_core::core_of(t);
-    let kept = c.table;
-    u16_as_u64(kept.count)
+    u64::from(kept(file).unwrap_or(0))
 }

@@ -6,10 +6,13 @@ use lib.ListN.{get_or}
 use Rattle.model.specs.Table.{Table}
 use Rattle.model.specs.Bounds.{bounds_refusal, hold, bound, Sizing, sized_or, sizing}
 use Rattle.model.proofs.Lists.{get_d_eight}
+use Rattle.std.specs.Prelude.{Result, Ok, Err}
+use Rattle.refusal.specs.declared.Refusal.{Refusal}
+use Rattle.refusal.specs.Numbers.{number_or_0}
 use Rattle.table.specs.declared.Table.{Table as TableRecord}
 use Rattle.table.specs.View.{view_table}
 use Rattle.bounds.specs.declared.Bounds.{Bounds as BoundsRecord}
-use Rattle.bounds.specs.Answer.{record_bounds}
+use Rattle.bounds.specs.Answer.{sizing_of}
 
 pub sizing_refused : (t : Table) → (sizing t).refused ≡ bounds_refusal t
 unfolding sizing sized_or
@@ -19,9 +22,10 @@ sizing_refused t = go (bounds_refusal t)
     go zero = refl
     go (suc n) = refl
 
--- of an answer in a record
-pub refusal_is : (t : TableRecord) (b : BoundsRecord) → b ≡ record_bounds (sizing (view_table t)) → b.refused ≡ bounds_refusal (view_table t)
-refusal_is t b e = ap (λ (r : BoundsRecord). r.refused) e ∙ sizing_refused (view_table t)
+-- of an answer
+pub refusal_is : (t : TableRecord) (b : Result BoundsRecord Refusal) → sizing_of b ≡ sizing (view_table t) → number_or_0 b ≡ bounds_refusal (view_table t)
+refusal_is t (Ok b) e = ap (λ (r : Sizing). r.refused) e ∙ sizing_refused (view_table t)
+refusal_is t (Err b) e = ap (λ (r : Sizing). r.refused) e ∙ sizing_refused (view_table t)
 
 -- what a sizing that is not refused has
 pub record Answers (t : Table) (s : Sizing) : Type 0 where
@@ -38,5 +42,5 @@ sized t e = go (bounds_refusal t) refl e
     go (suc n) q x = absurd (omega arith)
 
 -- so of an answer that is not refused
-pub sized_answer : (t : TableRecord) (b : BoundsRecord) → b ≡ record_bounds (sizing (view_table t)) → b.refused ≡ 0 → Answers (view_table t) (sizing (view_table t))
-sized_answer t b e z = sized (view_table t) (sym (ap (λ (r : BoundsRecord). r.refused) e) ∙ z)
+pub sized_answer : (t : TableRecord) (b : BoundsRecord) → sizing_of (Ok b) ≡ sizing (view_table t) → Answers (view_table t) (sizing_of (Ok b))
+sized_answer t b e = rw e (sized (view_table t) (sym (ap (λ (r : Sizing). r.refused) e)))

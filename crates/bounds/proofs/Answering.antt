@@ -1,8 +1,8 @@
 -- The answer from the limits of the eight priorities.
-use mathlib.Core.Path.{◌≡◌, refl, sym, ap, ◌∙◌}
+use mathlib.Core.Path.{◌≡◌, refl, sym, ◌∙◌}
 use mathlib.Core.Logic.{◌≢◌}
 use mathlib.Core.Bool.{true}
-use mathlib.Core.Option.{some}
+use mathlib.Core.Option.{none, some}
 use mathlib.Core.List.{List}
 use Prim.Native.Nat.{ℕ, zero, suc, ◌+◌, ◌<◌}
 use native.Mathlib.Decide.{ℕ_discrete}
@@ -11,20 +11,23 @@ use lib.ListN.{length, get_or, set, length-set, replicate, length-replicate}
 use lib.Seq.{ext_get_or, get_or-set_same, get_or-set_other}
 use Rattle.model.specs.Basics.{first_refusal, eight}
 use Rattle.model.specs.Table.{Table, table_checks, table_refusal}
-use Rattle.model.specs.Bounds.{hold_of, bound_within, is_there, or_zero, window_within, bounds_refusal, hold, bound, window, sized_or, sizing}
+use Rattle.model.specs.Bounds.{hold_of, bound_within, is_there, or_zero, window_within, bounds_refusal, hold, bound, window, Sizing, sized_or, sizing}
 use Rattle.model.proofs.Checks.{first_append}
 use Rattle.model.proofs.Lists.{get_d_eight}
 use Rattle.model.proofs.TableFacts.{table_numbered}
 use Rattle.model.proofs.Holds.{no_hold, all_holds}
-use Rattle.bounds.specs.declared.Bounds.{Bounds}
+use Rattle.std.specs.Prelude.{Ok, Err}
+use Rattle.refusal.specs.declared.Refusal.{Refusal}
+use Rattle.refusal.specs.declared.Refusal.TheVariants.{NoBounds}
+use Rattle.refusal.specs.Numbers.{number_of}
+use Rattle.refusal.proofs.Numbers.{number_not_0}
 use Rattle.bounds.specs.declared.limits.Limits.{Limits}
-use Rattle.bounds.specs.Limits.{found, Limited}
-use Rattle.bounds.specs.Answer.{record_bounds}
-use Rattle.bounds.proofs.Climbing.{found_some}
+use Rattle.bounds.specs.Limits.{LimitsOf}
+use Rattle.bounds.specs.Answer.{sizing_of}
 
 -- ---- the answers
 module _ (t : Table) where
-  refused_is : (n : ℕ) → n ≢ 0 → bounds_refusal t ≡ n → ◌≡◌ {A = Bounds} (record { refused = n; bounds = replicate 8 0; holds = replicate 8 0; windows = replicate 8 0 }) (record_bounds (sizing t))
+  refused_is : (n : ℕ) → n ≢ 0 → bounds_refusal t ≡ n → ◌≡◌ {A = Sizing} (record { refused = n; bounds = replicate 8 0; holds = replicate 8 0; windows = replicate 8 0 }) (sizing t)
   unfolding sizing sized_or
   refused_is zero z e = absurd (z refl)
   refused_is (suc n) z e = rw e
@@ -35,17 +38,15 @@ module _ (t : Table) where
   first_of (suc n) k z = refl
 
   -- those of the table
-  pub table_refused : (n : ℕ) → n ≡ table_refusal t → n ≢ 0 → (r : Bounds) → r ≡ record { refused = n; bounds = replicate 8 0; holds = replicate 8 0; windows = replicate 8 0 } → r ≡ record_bounds (sizing t)
+  pub table_refused : (r : Refusal) → number_of r ≡ table_refusal t → sizing_of (Err r) ≡ sizing t
   unfolding bounds_refusal table_refusal
-  table_refused n e z r q =
-      q ∙ refused_is n z (first_append (table_checks t) _ (table_numbered t) ∙ rw (← e) (first_of n _ z))
+  table_refused r e =
+      let z = number_not_0 r in
+      refused_is (number_of r) z (first_append (table_checks t) _ (table_numbered t) ∙ rw (← e) (first_of (number_of r) _ z))
 
-  module _ (e : table_refusal t ≡ 0) where
-    -- 8
-    pub hold_refused : (p : ℕ) (l : Limits) → p < 8 → Limited t p l → l.hold ≡ 0 → (r : Bounds) → r ≡ record { refused = 8; bounds = replicate 8 0; holds = replicate 8 0; windows = replicate 8 0 }
-        → r ≡ record_bounds (sizing t)
-    unfolding found
-    hold_refused p l h d z r q = q ∙ refused_is 8 (λ x. omega arith) (no_hold t e p h (d.hold ∙ ap found z))
+  -- 8
+  pub hold_refused : table_refusal t ≡ 0 → (p : ℕ) → p < 8 → hold_of t p ≡ none → sizing_of (Err NoBounds) ≡ sizing t
+  hold_refused e p h d = refused_is 8 (λ x. omega arith) (no_hold t e p h d)
 
 -- what is known of the priorities below n
 pub record Known (t : Table) (bounds holds windows : List ℕ) (n : ℕ) : Type 0 where
@@ -89,19 +90,16 @@ module _ (t : Table) where
   }
 
   module _ (bounds holds windows : List ℕ) (n : ℕ) (k : Known t bounds holds windows n) where
-    pub known_more : n < 8 → (l : Limits) → Limited t n l → l.hold ≢ 0
+    pub known_more : n < 8 → (l : Limits) → LimitsOf t n l
         → Known t (set bounds n l.bound) (set holds n l.hold) (set windows n l.window) (n + 1)
-    known_more h l d z = record {
+    known_more h l d = record {
       bounds8 = rw length-set k.bounds8;
       holds8 = rw length-set k.holds8;
       windows8 = rw length-set k.windows8;
-      there = one_more (λ p x. hold_of t p ≡ some x) holds n l.hold (omega (arith, k.holds8)) k.there here;
-      bound_is = one_more (λ p x. x ≡ bound t p) bounds n l.bound (omega (arith, k.bounds8)) k.bound_is (bound_of t n l.hold l.bound here (d.bound (omega arith)));
-      window_is = one_more (λ p x. x ≡ window t p) windows n l.window (omega (arith, k.windows8)) k.window_is (window_of t n l.hold l.window here (d.window (omega arith)));
+      there = one_more (λ p x. hold_of t p ≡ some x) holds n l.hold (omega (arith, k.holds8)) k.there d.hold;
+      bound_is = one_more (λ p x. x ≡ bound t p) bounds n l.bound (omega (arith, k.bounds8)) k.bound_is (bound_of t n l.hold l.bound d.hold d.bound);
+      window_is = one_more (λ p x. x ≡ window t p) windows n l.window (omega (arith, k.windows8)) k.window_is (window_of t n l.hold l.window d.hold d.window);
     }
-      where
-        here : hold_of t n ≡ some l.hold
-        here = d.hold ∙ found_some l.hold (omega arith)
 
   module _ (bounds holds windows : List ℕ) (k : Known t bounds holds windows 8) (e : table_refusal t ≡ 0) where
     list_is : (l : List ℕ) (f : ℕ → ℕ) → length l ≡ 8 → ((p : ℕ) → p < 8 → get_or l p 0 ≡ f p) → l ≡ eight f
@@ -111,7 +109,7 @@ module _ (t : Table) where
     unfolding is_there
     all_there p l = rw (k.there p l)
 
-    pub all_known : ◌≡◌ {A = Bounds} (record { refused = 0; bounds = bounds; holds = holds; windows = windows }) (record_bounds (sizing t))
+    pub all_known : sizing_of (Ok (record { bounds = bounds; holds = holds; windows = windows })) ≡ sizing t
     unfolding sizing sized_or
     all_known =
         rw (

@@ -1,7 +1,7 @@
 -- Climbing to the hold, which no step passes.
-use mathlib.Core.Path.{◌≡◌, refl, sym, ◌∙◌}
-use mathlib.Core.Option.{some}
-use Prim.Native.Nat.{ℕ, zero, suc, ◌+◌, ◌-◌, ◌≤◌, ◌<◌}
+use mathlib.Core.Path.{◌≡◌}
+use mathlib.Core.Option.{none, some}
+use Prim.Native.Nat.{ℕ, ◌+◌, ◌-◌, ◌≤◌, ◌<◌}
 use native.Mathlib.Decide.{dec_le}
 use native.Mathlib.Omega.{arith}
 use borrow.Author.Tests.{le-leb, lt-leb}
@@ -10,23 +10,16 @@ use Rattle.model.specs.Bounds.{up_arrivals, blocking, hold_test, hold_by, hold_o
 use Rattle.model.specs.Promises.{IsHold}
 use Rattle.model.proofs.Search.{is_first, is_none}
 use Rattle.model.proofs.Holds.{up_grows}
-use Rattle.bounds.specs.Limits.{found, Climbed}
 
 -- no w up to this one is a hold
 pub record Unheld (t : Table) (p last : ℕ) : Type 0 where
   pub none : (k : ℕ) → 1 ≤ k → k ≤ last → k < blocking t p + up_arrivals t p (k - 1)
 
-pub found_some : (n : ℕ) → 0 < n → found n ≡ some n
-unfolding found
-found_some zero l = absurd (omega arith)
-found_some (suc n) l = refl
-
-pub hold_found : (t : Table) (p w : ℕ) → IsHold t p w → hold_of t p ≡ found w
+pub hold_found : (t : Table) (p w : ℕ) → IsHold t p w → hold_of t p ≡ some w
 unfolding hold_of hold_by hold_test
 hold_found t p w h =
     is_first (hold_test (blocking t p) (up_arrivals t p)) 65_536 1 w
     (record { from = h.least_is; below = omega (arith, h.most_is); holds = le-leb _ _ h.holds; before = λ k i j. lt-leb _ _ (h.smallest k i j) })
-    ∙ sym (found_some w (omega (arith, h.least_is)))
 
 module _ (t : Table) (p : ℕ) where
   pub unheld_start : Unheld t p 0
@@ -40,7 +33,7 @@ module _ (t : Table) (p : ℕ) where
         go k l m (yes x) = u.none k l x
         go k l m (no x) = omega (arith, up_grows t p last (k - 1) (omega arith))
 
-    is_hold : last < 65_536 → n ≤ last + 1 → IsHold t p (last + 1)
+    pub is_hold : last < 65_536 → n ≤ last + 1 → IsHold t p (last + 1)
     is_hold h l =
         record {
           least_is = omega arith;
@@ -49,12 +42,6 @@ module _ (t : Table) (p : ℕ) where
           smallest = λ k x y. u.none k x (omega arith);
         }
 
-    pub climbed_here : last < 65_536 → n ≤ last + 1 → Climbed t p (last + 1)
-    climbed_here h l = record { is = hold_found t p (last + 1) (is_hold h l); smallest = λ _. is_hold h l }
-
-  pub climbed_none : (last : ℕ) → Unheld t p last → 65_536 ≤ last → Climbed t p 0
-  unfolding hold_of hold_by hold_test found
-  climbed_none last u h = record {
-    is = is_none (hold_test (blocking t p) (up_arrivals t p)) 65_536 1 (λ k i j. lt-leb _ _ (u.none k i (omega arith)));
-    smallest = λ l. absurd (omega arith);
-  }
+  pub climbed_none : (last : ℕ) → Unheld t p last → 65_536 ≤ last → hold_of t p ≡ none
+  unfolding hold_of hold_by hold_test
+  climbed_none last u h = is_none (hold_test (blocking t p) (up_arrivals t p)) 65_536 1 (λ k i j. lt-leb _ _ (u.none k i (omega arith)))

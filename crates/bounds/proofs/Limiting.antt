@@ -19,7 +19,8 @@ use Rattle.table.proofs.PassingRecord.{link_fits}
 use Rattle.bounds_backlog.specs.Peaks.{Highest}
 use Rattle.bounds_backlog.specs.Stretches.{Given}
 use Rattle.bounds_backlog.proofs.Highest.{highest_is, highest_first}
-use Rattle.bounds.specs.Limits.{Climbed, Limited}
+use Rattle.bounds.specs.Limits.{LimitsOf}
+use Rattle.bounds.proofs.Climbing.{hold_found}
 
 -- ---- a set has a link exactly if its greatest length is not 0
 any_longest : (s : VirtualLink → Bool) (links : List VirtualLink) → ((i : ℕ) → i < length links → 84 ≤ (link_at links i).greatest) → any_of s links ≡ true
@@ -53,39 +54,38 @@ module _ (t : TableRecord) (p m : ℕ) (q : m ≡ longest (view_table t) p) wher
       go true x = refl
       go false x = absurd (omega (arith, greatest_none (of_priority p) (λ v. v.greatest) (view_links t) x))
 
--- ---- the three cases
+-- ---- with a hold
 module _ (t : Table) (p : ℕ) where
-  pub limited_none : (h : ℕ) → h ≡ 0 → Climbed t p h → Limited t p (record { hold = 0; bound = 0; window = 0 })
-  limited_none h z c = record { hold = rw z at c.is; bound = λ l. absurd (omega arith); window = λ l. absurd (omega arith) }
-
-  module _ (h : ℕ) (c : Climbed t p h) where
-    pub limited_idle : any_of (of_priority p) t.links ≡ false → Limited t p (record { hold = h; bound = 0; window = 0 })
+  module _ (h : ℕ) (c : IsHold t p h) where
+    pub limited_idle : any_of (of_priority p) t.links ≡ false → LimitsOf t p (record { hold = h; bound = 0; window = 0 })
     unfolding bound_within window_within
-    limited_idle n = record { hold = c.is; bound = λ l. rw n; window = λ l. rw n }
+    limited_idle n = record { hold = hold_found t p h c; bound = rw n; window = rw n }
 
     module _ (last m w : ℕ) (e : last + 1 ≡ h) (t' : Highest (backlog t p) (last + 1) m w) where
       highest : Highest (backlog t p) h m w
       highest = rw e at t'
 
-      pub limited_busy : any_of (of_priority p) t.links ≡ true → Limited t p (record { hold = h; bound = m; window = w })
+      pub limited_busy : any_of (of_priority p) t.links ≡ true → LimitsOf t p (record { hold = h; bound = m; window = w })
       unfolding bound_within window_within or_zero
       limited_busy n =
+          let l : 0 < h = omega (arith, c.least_is) in
           record {
-            hold = c.is;
-            bound = λ l. rw n (highest_is (backlog t p) h m w l highest);
-            window = λ l. rw (n, highest_first (backlog t p) h m w l highest);
+            hold = hold_found t p h c;
+            bound = rw n (highest_is (backlog t p) h m w l highest);
+            window = rw (n, highest_first (backlog t p) h m w l highest);
           }
 
       net_most : (a u d x : ℕ) → min a (u - d + x - 1) ≤ u + x
       net_most a u d x = omega arith
 
-      pub bound_fits : IsHold t p h → longest t p ≤ 1_538 → m ≤ 67_074
+      pub bound_fits : longest t p ≤ 1_538 → m ≤ 67_074
       unfolding backlog
-      bound_fits i l =
+      bound_fits l =
           let x = net_most (own_arrivals t p w) (up_arrivals t p w) (w - blocking t p) (longest t p) in
-          omega (arith, highest.hit, up_grows t p w (h - 1) highest.inside, i.holds, i.most_is)
+          omega (arith, highest.hit, up_grows t p w (h - 1) highest.inside, c.holds, c.most_is)
 
-  pub given_hold : (b m h : ℕ) → Climbed t p h → 0 < h → b ≡ blocking t p → m ≡ longest t p → 1 ≤ m → m ≤ 1_538 → Given t p b m (h - 1)
-  given_hold b m h c l eb em x y =
-      let e : h - 1 + 1 ≡ h = omega arith in
-      record { blocking_is = eb; longest_is = em; some_link = x; longest_most = y; is_hold = rw e (c.smallest l) }
+  pub given_hold : (b m h : ℕ) → IsHold t p h → b ≡ blocking t p → m ≡ longest t p → 1 ≤ m → m ≤ 1_538
+      → Given t (record { priority = p; blocking = b; longest = m; last = h - 1 })
+  given_hold b m h c eb em x y =
+      let e : h - 1 + 1 ≡ h = omega (arith, c.least_is) in
+      record { blocking_is = eb; longest_is = em; some_link = x; longest_most = y; is_hold = rw e c }

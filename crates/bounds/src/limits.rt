@@ -1,45 +1,45 @@
 // Hold, bound and window of one priority.
-ghost use Rattle.std.specs.Prelude.{◌≡◌, ◌≤◌};
-ghost use Rattle.model.specs.Table.{table_refusal};
+ghost use Rattle.std.specs.Prelude.{◌≤◌};
 ghost use Rattle.table.specs.View.{view_table};
 ghost use Rattle.bounds.specs.Limits.{Limited};
 
 use crate::busy;
-use table::Table;
+use bounds_arrivals::Priorities;
+use bounds_backlog::Search;
+use table::passing::Passing;
 
-// A hold of 0 is none.
-#[derive(Clone, Copy)]
+#[derive(Clone, Copy, Debug, PartialEq, Eq)]
 pub struct Limits {
     pub hold: u32,
     pub bound: u32,
     pub window: u32,
 }
 
-pub(crate) fn limits_of(t: Table, p: u8) -> Limits
-    requires { (table_refusal (view_table t) ≡ 0) × (p ≤ 7) }
-    ensures { Limited (view_table t) p result }
+// None without a hold.
+pub(crate) fn limits_of(t: Passing, p: u8) -> Option<Limits>
+    requires { p ≤ 7 }
+    ensures { Limited (view_table t.table) p result }
 {
     let b = busy::blocking_of(t, p);
-    let hold = busy::hold_of(t, p, b);
-    if hold == 0 {
-        return Limits {
-            hold: 0,
-            bound: 0,
-            window: 0,
-        };
-    }
-    let m = bounds_arrivals::longest(t, p, p);
+    let hold = busy::hold_of(t, p, b)?;
+    let m = bounds_arrivals::longest(t, Priorities::one(p));
     if m == 0 {
-        return Limits {
+        return Some(Limits {
             hold: hold as u32,
             bound: 0,
             window: 0,
-        };
+        });
     }
-    let peak = bounds_backlog::peak_of(t, p, b, m, hold - 1);
-    Limits {
+    let search = Search {
+        priority: p,
+        blocking: b,
+        longest: m,
+        last: hold - 1,
+    };
+    let peak = bounds_backlog::peak_of(t, search);
+    Some(Limits {
         hold: hold as u32,
         bound: peak.backlog as u32,
         window: peak.window as u32,
-    }
+    })
 }

@@ -62,3 +62,7 @@ view_count t i h = rw (count_shown t) h
 
 pub line_in : (t : TableRecord) → table_refusal (view_table t) ≡ 0 → (i : ℕ) → i < t.count → (get_or t.links i blank_fields).line < 24
 line_in t pass i h = omega (arith, (entry_fits t pass i h).line_below, (counts_pass t pass).lines_most)
+
+-- an entry's place among the sums of the lines, by what a loop over the links reads
+pub place_in : (t : TableRecord) → table_refusal (view_table t) ≡ 0 → (i : ℕ) → i < t.count → (v : LinkFields) → v ≡ get_or t.links i blank_fields → (k : ℕ) → k ≡ v.line → k < 24
+place_in t pass i h v e k q = let x : k ≡ (get_or t.links i blank_fields).line = rw (← e) q in omega (arith, line_in t pass i h)

@@ -3,14 +3,41 @@
 
 ghost use Rattle.std.specs.Prelude.{◌≡◌, ℕ, ◌*◌, ◌≤◌, ◌<◌, get_or};
 ghost use Rattle.model.specs.Link.{greatest_over};
-ghost use Rattle.model.specs.Table.{table_refusal};
 ghost use Rattle.model.specs.Arrival.{frame_curve, arrival_curve};
-ghost use Rattle.table.specs.View.{view_link, view_links, view_table};
+ghost use Rattle.table.specs.View.{view_link, view_links};
 ghost use Rattle.bounds_arrivals.specs.Loads.{within, between, less, Loaded, flow};
 
-use numbers::{excess, larger, smaller, u16_as_u64, u16_as_usize, u32_as_u64};
-use table::{Table, VirtualLink};
+use table::VirtualLink;
+use table::passing::Passing;
 use units::LEAST_BAG;
+
+// The priorities low to high.
+#[derive(Clone, Copy, Debug, PartialEq, Eq)]
+pub struct Priorities {
+    pub low: u8,
+    pub high: u8,
+}
+
+impl Priorities {
+    pub fn one(p: u8) -> Priorities
+        ensures { result ≡ record { low = p; high = p } }
+    {
+        Priorities { low: p, high: p }
+    }
+
+    pub fn up_to(p: u8) -> Priorities
+        ensures { result ≡ record { low = 0; high = p } }
+    {
+        Priorities { low: 0, high: p }
+    }
+
+    // Whether a link is of one of them.
+    fn has(self, l: VirtualLink) -> bool
+        ensures { result ≡ within self.low self.high l.priority }
+    {
+        self.low <= l.priority && l.priority <= self.high
+    }
+}
 
 // For each line: the bytes of its members' frames, and the longest frame of a member.
 #[derive(Clone, Copy)]
@@ -19,62 +46,44 @@ pub struct Loads {
     pub tops: [u64; 24],
 }
 
+// w is a number with a condition, here and below: a type of windows would wrap each sum and difference of ticks, and is no plainer.
 // N_v(w). The BAG is the least times 2 to the power of the code: division by a constant and a shift are faster.
 pub fn frames(l: VirtualLink, w: u64) -> u64
     requires { (l.code ≤ 7) × (l.jitter ≤ 125000) × (w ≤ 65536) }
     ensures { ((n : ℕ) → result ≡ frame_curve (view_link n l) w) × (result ≤ 16) }
 {
-    1 + ((w + u32_as_u64(l.jitter)) / LEAST_BAG >> l.code)
+    1 + ((w + u64::from(l.jitter)) / LEAST_BAG >> l.code)
 }
 
-// Whether a link is of priority low to high.
-fn member(l: VirtualLink, low: u8, high: u8) -> bool
-    ensures { result ≡ within low high l.priority }
+// The greatest length of the links of some priorities.
+pub fn longest(t: Passing, of: Priorities) -> u64
+    ensures { (result ≡ greatest_over (between of.low of.high) (λ v. v.greatest) (view_links t.table)) × (result ≤ 1538) }
 {
-    if l.priority < low {
-        return false;
-    }
-    l.priority <= high
-}
-
-// The greatest length of the links of priority low to high.
-pub fn longest(t: Table, low: u8, high: u8) -> u64
-    requires { table_refusal (view_table t) ≡ 0 }
-    ensures { (result ≡ greatest_over (between low high) (λ v. v.greatest) (view_links t)) × (result ≤ 1538) }
-{
-    let count = u16_as_usize(t.count);
     let mut top: u64 = 0;
-    let mut i: usize = 0;
-    while i < count {
-        let l = t.links[i];
-        if member(l, low, high) {
-            top = larger(top, u16_as_u64(l.greatest));
+    for &l in t.links() {
+        if of.has(l) {
+            top = top.max(u64::from(l.greatest));
         }
-        i += 1;
     }
     top
 }
 
-// The loads of the lines by the links of priority low to high in a window of w ticks. A frame counts for its greatest
-// length less what is cut off it.
-pub fn loads_of(t: Table, w: u64, low: u8, high: u8, cut: u64) -> Loads
-    requires { (table_refusal (view_table t) ≡ 0) × (w ≤ 65536) }
-    ensures { Loaded (less cut) (between low high) (view_links t) w result }
+// The loads of the lines by the links of some priorities in a window of w ticks. A frame counts for its greatest length
+// less what is cut off it.
+pub fn loads_of(t: Passing, w: u64, of: Priorities, cut: u64) -> Loads
+    requires { w ≤ 65536 }
+    ensures { Loaded (less cut) (between of.low of.high) (view_links t.table) w result }
 {
-    let count = u16_as_usize(t.count);
     let mut sums = [0u64; 24];
     let mut tops = [0u64; 24];
-    let mut i: usize = 0;
-    while i < count {
-        let l = t.links[i];
-        if member(l, low, high) {
-            let k = l.line as usize;
-            let wire = u16_as_u64(l.greatest);
-            let kept = excess(wire, cut);
-            sums[k] = sums[k] + kept * frames(l, w);
-            tops[k] = larger(tops[k], kept);
+    for &l in t.links() {
+        if of.has(l) {
+            let k = usize::from(l.line);
+            let wire = u64::from(l.greatest);
+            let kept = wire.saturating_sub(cut);
+            sums[k] += kept * frames(l, w);
+            tops[k] = tops[k].max(kept);
         }
-        i += 1;
     }
     Loads { sums, tops }
 }
@@ -85,19 +94,17 @@ pub fn total(l: Loads, lines: usize, w: u64) -> u64
     ensures { (result ≡ flow l lines w) × (result ≤ 67074 * lines) }
 {
     let mut sum: u64 = 0;
-    let mut k: usize = 0;
-    while k < lines {
-        sum += smaller(l.sums[k], w + l.tops[k]);
-        k += 1;
+    for k in 0..lines {
+        sum += l.sums[k].min(w + l.tops[k]);
     }
     sum
 }
 
-// A(w) of the links of priority low to high, in wire bytes.
-pub fn arrivals(t: Table, low: u8, high: u8, w: u64) -> u64
-    requires { (table_refusal (view_table t) ≡ 0) × (w ≤ 65536) }
-    ensures { (result ≡ arrival_curve (less 0) (between low high) t.lines (view_links t) w) × (result ≤ 67074 * 24) }
+// A(w) of the links of some priorities, in wire bytes.
+pub fn arrivals(t: Passing, of: Priorities, w: u64) -> u64
+    requires { w ≤ 65536 }
+    ensures { (result ≡ arrival_curve (less 0) (between of.low of.high) t.table.lines (view_links t.table) w) × (result ≤ 67074 * 24) }
 {
-    let l = loads_of(t, w, low, high, 0);
-    total(l, u16_as_usize(t.lines), w)
+    let l = loads_of(t, w, of, 0);
+    total(l, usize::from(t.table.lines), w)
 }

@@ -22,7 +22,7 @@ use Rattle.bounds_backlog.specs.Stretches.{Steady, Given, SumsFit, Stretched, ba
 use Rattle.bounds_backlog.proofs.Bending.{drained_bends}
 use Rattle.bounds_backlog.proofs.Steadiness.{steady_less, load_stays, flow_bends}
 
-module _ (t : TableRecord) (pass : table_refusal (view_table t) ≡ 0) (p b m last w : ℕ) (g : Given (view_table t) p b m last) (h : w ≤ last)
+module _ (t : TableRecord) (pass : table_refusal (view_table t) ≡ 0) (p b m last w : ℕ) (g : Given (view_table t) (record { priority = p; blocking = b; longest = m; last = last })) (h : w ≤ last)
     (own up : Loads) (lo : Loaded (less unkept) (between p p) (view_links t) w own) (lu : Loaded (less 0) (between 0 p) (view_links t) w up)
     (e u : ℕ) (we : w ≤ e) (st : Steady (between 0 p) (view_links t) t.count w e) (q : u ≡ min e last) (lines : ℕ) (ql : lines ≡ t.lines) where
   stretch : Stretch

@@ -8,6 +8,7 @@ use Rattle.model.specs.Promises.{IsHold}
 use Rattle.table.specs.declared.VirtualLink.{VirtualLink as LinkFields}
 use Rattle.table.specs.View.{view_link}
 use Rattle.bounds_arrivals.specs.Loads.{between, flow}
+use Rattle.bounds_backlog.specs.declared.Search.{Search}
 use Rattle.bounds_backlog.specs.declared.Stretch.{Stretch}
 use Rattle.bounds_backlog.specs.declared.Peak.{Peak}
 use Rattle.bounds_backlog.specs.Peaks.{Bends, Highest}
@@ -33,12 +34,12 @@ abbrev pub backlog_in : Stretch → ℕ → ℕ
 backlog_in s w = backlog_by s w w
 
 -- what the search for the bound of a priority starts from: the hold is last + 1
-pub record Given (t : Table) (p b m last : ℕ) : Type 0 where
-  pub blocking_is : b ≡ blocking t p
-  pub longest_is : m ≡ longest t p
-  pub some_link : 1 ≤ m
-  pub longest_most : m ≤ 1_538
-  pub is_hold : IsHold t p (last + 1)
+pub record Given (t : Table) (s : Search) : Type 0 where
+  pub blocking_is : s.blocking ≡ blocking t s.priority
+  pub longest_is : s.longest ≡ longest t s.priority
+  pub some_link : 1 ≤ s.longest
+  pub longest_most : s.longest ≤ 1_538
+  pub is_hold : IsHold t s.priority (s.last + 1)
 
 -- sums over its loads fit
 pub record SumsFit (s : Stretch) : Type 0 where

@@ -3,16 +3,25 @@
 #![tactic(auto)]
 
 ghost use Rattle.std.specs.Prelude.{◌≡◌, ◌+◌, ◌≤◌, ◌<◌};
-ghost use Rattle.model.specs.Table.{table_refusal};
 ghost use Rattle.model.specs.Bounds.{backlog};
 ghost use Rattle.table.specs.View.{view_links, view_table};
 ghost use Rattle.bounds_arrivals.specs.Loads.{between};
 ghost use Rattle.bounds_backlog.specs.Peaks.{Crest, Highest};
 ghost use Rattle.bounds_backlog.specs.Stretches.{LinkSteady, Steady, Given, SumsFit, Steep, Stretched, Improved, Raised, backlog_by, backlog_in};
 
-use bounds_arrivals::Loads;
-use table::{Table, VirtualLink};
+use bounds_arrivals::{Loads, Priorities};
+use table::VirtualLink;
+use table::passing::Passing;
 use units::UNKEPT;
+
+// What the search for the bound of a priority starts from: b, M, and the last window below its hold.
+#[derive(Clone, Copy)]
+pub struct Search {
+    pub priority: u8,
+    pub blocking: u64,
+    pub longest: u64,
+    pub last: u64,
+}
 
 // The windows from start to last, with the loads that all of them have in common.
 #[derive(Clone, Copy)]
@@ -27,7 +36,7 @@ pub struct Stretch {
 }
 
 // The greatest backlog so far, and the first window at which it occurs.
-#[derive(Clone, Copy)]
+#[derive(Clone, Copy, Debug, PartialEq, Eq)]
 pub struct Peak {
     pub backlog: u64,
     pub window: u64,
@@ -42,42 +51,36 @@ fn link_steady(l: VirtualLink, high: u8, w: u64) -> u64
         return 65535;
     }
     let n = bounds_arrivals::frames(l, w);
-    n * table::bag(l.code) - numbers::u32_as_u64(l.jitter) - 1
+    n * table::bag(l.code) - u64::from(l.jitter) - 1
 }
 
 // A window up to which no link of priority 0 to high has more frames than in w.
-fn steady(t: Table, w: u64, high: u8) -> u64
-    requires { (table_refusal (view_table t) ≡ 0) × (w < 65536) }
-    ensures { (w ≤ result) × Steady (between 0 high) (view_links t) t.count w result }
+fn steady(t: Passing, w: u64, high: u8) -> u64
+    requires { w < 65536 }
+    ensures { (w ≤ result) × Steady (between 0 high) (view_links t.table) t.table.count w result }
 {
-    let count = numbers::u16_as_usize(t.count);
     let mut last: u64 = 65535;
-    let mut i: usize = 0;
-    while i < count {
-        let l = t.links[i];
-        last = numbers::smaller(last, link_steady(l, high, w));
-        i += 1;
+    for &l in t.links() {
+        last = last.min(link_steady(l, high, w));
     }
     last
 }
 
-// The stretch from w, which ends by last.
-fn stretch_at(t: Table, p: u8, blocking: u64, longest: u64, w: u64, last: u64) -> Stretch
-    requires { Given (view_table t) p blocking longest last × (table_refusal (view_table t) ≡ 0) × (w ≤ last) }
-    ensures { Stretched (backlog (view_table t) p) w last result }
+// The stretch from w, which ends by the last window.
+fn stretch_at(t: Passing, s: Search, w: u64) -> Stretch
+    requires { Given (view_table t.table) s × (w ≤ s.last) }
+    ensures { Stretched (backlog (view_table t.table) s.priority) w s.last result }
 {
-    let own = bounds_arrivals::loads_of(t, w, p, p, UNKEPT);
-    let up = bounds_arrivals::loads_of(t, w, 0, p, 0);
-    let until = numbers::smaller(steady(t, w, p), last);
-    let lines = numbers::u16_as_usize(t.lines);
+    let own = bounds_arrivals::loads_of(t, w, Priorities::one(s.priority), UNKEPT);
+    let up = bounds_arrivals::loads_of(t, w, Priorities::up_to(s.priority), 0);
     Stretch {
         own,
         up,
-        lines,
-        blocking,
-        longest,
+        lines: usize::from(t.table.lines),
+        blocking: s.blocking,
+        longest: s.longest,
         start: w,
-        last: until,
+        last: steady(t, w, s.priority).min(s.last),
     }
 }
 
@@ -90,10 +93,8 @@ fn backlog_by(s: Stretch, w: u64, sent: u64) -> u64
     let up = s.up;
     let a = bounds_arrivals::total(own, s.lines, w);
     let u = bounds_arrivals::total(up, s.lines, w);
-    numbers::smaller(
-        a,
-        numbers::excess(u, numbers::excess(sent, s.blocking)) + s.longest - 1,
-    )
+    let left = u.saturating_sub(sent.saturating_sub(s.blocking));
+    a.min(left + s.longest - 1)
 }
 
 // The first window of the stretch with its greatest backlog: the backlog bends down, so bisection on its slope finds it.
@@ -103,6 +104,7 @@ fn crest(s: Stretch) -> u64
 {
     let mut low = s.start;
     let mut high = s.last;
+    // No index is counted: each turn halves what is left, and no `for` is plainer.
     while low < high {
         let mid = (low + high) / 2;
         let next = mid + 1;
@@ -143,20 +145,21 @@ fn improved(best: Peak, s: Stretch) -> Peak
     raised(best, v, k)
 }
 
-// The greatest backlog of priority p over the windows from 0 to last, stretch by stretch.
-pub fn peak_of(t: Table, p: u8, blocking: u64, longest: u64, last: u64) -> Peak
-    requires { Given (view_table t) p blocking longest last × (table_refusal (view_table t) ≡ 0) }
-    ensures { Highest (backlog (view_table t) p) (last + 1) result.backlog result.window }
+// The greatest backlog of a priority over the windows from 0 to the last, stretch by stretch.
+pub fn peak_of(t: Passing, s: Search) -> Peak
+    requires { Given (view_table t.table) s }
+    ensures { Highest (backlog (view_table t.table) s.priority) (s.last + 1) result.backlog result.window }
 {
     let mut best = Peak {
         backlog: 0,
         window: 0,
     };
     let mut w: u64 = 0;
-    while w <= last {
-        let s = stretch_at(t, p, blocking, longest, w, last);
-        best = improved(best, s);
-        w = s.last + 1;
+    // No index is counted: w goes on to the next stretch, and no `for` is plainer.
+    while w <= s.last {
+        let stretch = stretch_at(t, s, w);
+        best = improved(best, stretch);
+        w = stretch.last + 1;
     }
     best
 }

@@ -2,7 +2,7 @@
 // case leaves.
 #![tactic(auto)]
 
-pub mod given;
+pub mod reader;
 pub mod record;
 pub mod rows;
 pub mod sums;

@@ -1,31 +1,45 @@
 -- Counts in a list, four a link, and the model's sums of them.
 use mathlib.Core.Path.{◌≡◌, refl, sym, ◌∙◌}
 use mathlib.Core.List.{List, [], ◌∷◌, ◌++◌}
-use Prim.Native.Nat.{ℕ, zero, suc, ◌+◌, ◌*◌, ◌^◌, ◌≤◌, ◌<◌}
-use native.Mathlib.Numerals.{add-one}
+use Prim.Native.Nat.{ℕ, zero, suc, ◌+◌, ◌-◌, ◌*◌, ◌^◌, ◌≤◌, ◌<◌}
+use native.Mathlib.Numerals.{add-one, unary_clauses}
 use native.Mathlib.Omega.{arith}
-use lib.ListN.{length, set, replicate, length-append}
+use Rattle.std.specs.List.{sum}
+use lib.ListN.{length, take, drop, set, replicate, length-append}
 use Rattle.model.specs.Basics.{entries, sum_to}
 use Rattle.model.specs.Units.{full_count}
 use Rattle.model.specs.Counters.{Counters, verdicts, count_at, link_sum, link_sums, grand_total}
 use Rattle.model.proofs.Entries.{entries_blank, entries_next}
 use Rattle.model.proofs.Queues.{sum_to_ext}
 use Rattle.model.proofs.Counting.{FitCounts, fit_counts}
-use Rattle.counters.specs.View.{view_counts}
+use Rattle.counters.specs.View.{four_at, view_counts}
 use Rattle.counters.proofs.Rows.{count_at_lem}
-use Rattle.counter_sums.specs.Adding.{count_in, Few, added_up}
+use Rattle.counter_sums.specs.Adding.{count_in, Few}
 
--- ---- one number more of a sum
-pub none_yet : (f : ℕ → ℕ) → 0 ≡ sum_to f 0
+four_further : (x : ℕ) (l : List ℕ) (at : ℕ) → four_at l at ≡ four_at (x ∷ l) (suc at)
+unfolding four_at
+four_further x l at = simp unary_clauses
+
+-- ---- the four counts of a link, as they stand in the list
+four_taken : (l : List ℕ) (at n : ℕ) → n ≡ 4 → at + 4 ≤ length l → take n (drop at l) ≡ four_at l at
+unfolding four_at
+four_taken [] at n e h = absurd (omega arith)
+four_taken (a ∷ []) zero n e h = absurd (omega arith)
+four_taken (a ∷ b ∷ []) zero n e h = absurd (omega arith)
+four_taken (a ∷ b ∷ c ∷ []) zero n e h = absurd (omega arith)
+four_taken (a ∷ b ∷ c ∷ d ∷ l) zero n e h = rw e
+four_taken (x ∷ l) (suc at) n e h = four_taken l at n e (omega arith) ∙ four_further x l at
+
+abbrev pub of_link : List ℕ → ℕ → List ℕ
+of_link counts i = take (4 * i + 4 - 4 * i) (drop (4 * i) counts)
+
+pub sum_of_four : (counts : List ℕ) (i : ℕ) → 4 * i + 4 ≤ length counts → sum (of_link counts i) ≡ sum_to (count_in counts i) verdicts
+unfolding four_at sum_to
+sum_of_four counts i h = rw (four_taken counts (4 * i) (4 * i + 4 - 4 * i) (omega arith) h)
+
+pub sum_fits : (counts : List ℕ) (i : ℕ) → 4 * i + 4 ≤ length counts → ((v : ℕ) → v < verdicts → count_in counts i v ≤ full_count) → sum (of_link counts i) < 2 ^ 64
 unfolding sum_to
-none_yet f = refl
-
-pub one_more : (f : ℕ → ℕ) (k : ℕ) {sum : ℕ} → sum ≡ sum_to f k → sum + f k ≡ sum_to f (k + 1)
-unfolding sum_to
-one_more f k e = rw (e, add-one)
-
-pub all_four : (f : ℕ → ℕ) (v : ℕ) {sum : ℕ} → sum ≡ sum_to f v → v ≤ 4 → 4 ≤ v → sum ≡ sum_to f verdicts
-all_four f v e h m = let four : v ≡ 4 = omega arith in rw four at e
+sum_fits counts i h few = omega (arith, sum_of_four counts i h, few 0 (omega arith), few 1 (omega arith), few 2 (omega arith), few 3 (omega arith))
 
 -- ---- the first i links of counts that are at most full
 module _ (counts : List ℕ) (unknown n : ℕ) (few : Few counts unknown n) where
@@ -79,7 +93,3 @@ module _ (counts : List ℕ) (unknown n : ℕ) (few : Few counts unknown n) wher
     pub total_more : grand_total i c + x ≡ grand_total (i + 1) c
     unfolding grand_total sum_to
     total_more = rw add-one (omega (arith, e, sum_is i h))
-
-  -- all n
-  pub all_links : (i : ℕ) {sums : List ℕ} {total : ℕ} → sums ≡ entries 0 256 (link_sums i c) → total ≡ grand_total i c → i ≤ n → n ≤ i → record { sums = sums; total = total } ≡ added_up n c
-  all_links i e t h m = let same : i ≡ n = omega arith in rw (e, t, same)

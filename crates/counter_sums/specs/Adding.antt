@@ -1,10 +1,8 @@
 -- What the parts of the addition promise, and what they ask.
 use Rattle.std.specs.Prelude.{◌≡◌, true, List, ℕ, ◌+◌, ◌*◌, ◌≤◌, leb, length, get_or}
-use Rattle.model.specs.Basics.{entries}
 use Rattle.model.specs.Units.{full_count}
-use Rattle.model.specs.Counters.{Counters, link_sums, grand_total, every_count}
+use Rattle.model.specs.Counters.{every_count}
 use Rattle.counters.specs.View.{view_counts}
-use Rattle.counter_sums.specs.declared.Added.{Added}
 
 -- the count of the link at a place, by its verdict
 abbrev pub count_in : List ℕ → ℕ → ℕ → ℕ
@@ -15,6 +13,3 @@ pub record Few (counts : List ℕ) (unknown n : ℕ) : Type 0 where
   pub sized : length counts ≡ 1024
   pub links : n ≤ 256
   pub each : every_count (λ count. leb count full_count) n (view_counts n counts unknown) ≡ true
-
-abbrev pub added_up : ℕ → Counters → Added
-added_up n c = record { sums = entries 0 256 (link_sums n c); total = grand_total n c }

@@ -4,11 +4,12 @@ use mathlib.Core.List.{List}
 use Prim.Native.Nat.{ℕ, zero, suc}
 use Rattle.model.specs.Table.{Table}
 use Rattle.model.specs.TableFile.{read_table}
-use Rattle.table_file.specs.declared.Reading.{Reading as ReadingRecord}
-use Rattle.table_file.specs.declared.Writing.{Writing as WritingRecord}
 use Rattle.table.specs.View.{view_table}
-use Rattle.table_file.specs.Answers.{record_reading}
-use Rattle.table_file.specs.Answers.{Wrote}
+use Rattle.table_file.specs.Answers.{Reading as ReadingRecord, Writing as WritingRecord, record_reading, writing_of, Wrote}
+use Rattle.table_file.proofs.Answers.{told_written}
+use Rattle.std.specs.Prelude.{Result}
+use Rattle.refusal.specs.declared.Refusal.{Refusal}
+use Rattle.refusal.specs.Numbers.{number_or_0}
 use Rattle.table_file.proofs.Back.{read_shown}
 use Rattle.fenuschia_c.specs.Copied.{copy_or, copy_of, Copied}
 
@@ -27,9 +28,12 @@ module _ (file before : List ℕ) (r : ReadingRecord) (e : r ≡ record_reading 
       let n = refused_untouched (read_table file).refused (read_table file).table before (λ x. h (cc refusal_is)) in
       record { answer = refusal_is ∙ sym n.0; output = rw n.1 }
 
-  pub written_copied : r.refused ≡ 0 → (after : List ℕ) (w : WritingRecord) → Wrote (view_table r.table) before after w → Copied file before after w.refused
+  written_copied : r.refused ≡ 0 → (after : List ℕ) (w : WritingRecord) → Wrote (view_table r.table) before after w → Copied file before after w.refused
   unfolding copy_of copy_or
   written_copied z after w o =
       let none : (read_table file).refused ≡ 0 = cc refusal_is in
       let same : view_table r.table ≡ (read_table file).table = ap (λ (x : ReadingRecord). view_table x.table) e ∙ read_shown file in
       record { answer = rw none (rw same at o.refused); output = rw none (rw same at o.output) }
+
+  pub told_copied : r.refused ≡ 0 → (after : List ℕ) (w : Result ℕ Refusal) → Wrote (view_table r.table) before after (writing_of w) → Copied file before after (number_or_0 w)
+  told_copied z after w o = rw (← told_written w) (written_copied z after (writing_of w) o)

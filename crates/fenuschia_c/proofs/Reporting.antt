@@ -9,8 +9,7 @@ use Rattle.model.specs.Port.{fresh}
 use Rattle.model.specs.Batch.{batch, reports_in, numbers_in, bytes_refusal, bytes_or, file_or, batch_file}
 use Rattle.model.proofs.FileRead.{read_passes}
 use Rattle.table.specs.View.{view_table}
-use Rattle.table_file.specs.declared.Reading.{Reading as ReadingRecord}
-use Rattle.table_file.specs.Answers.{record_reading}
+use Rattle.table_file.specs.Answers.{Reading as ReadingRecord, record_reading}
 use Rattle.table_file.proofs.Back.{read_shown}
 use Rattle.batch_bytes.specs.Promised.{BytesAnswers}
 use Rattle.fenuschia_c.specs.Reported.{Reported}

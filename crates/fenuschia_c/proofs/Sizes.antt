@@ -17,11 +17,8 @@ use Rattle.model.proofs.Passing.{is_passing}
 use Rattle.little_endian.specs.Output.{laid}
 use Rattle.little_endian.proofs.Laid.{then_laid}
 use Rattle.table.specs.View.{view_table}
-use Rattle.table_file.specs.declared.Reading.{Reading as ReadingRecord}
-use Rattle.table_file.specs.Answers.{record_reading}
+use Rattle.table_file.specs.Answers.{Reading as ReadingRecord, record_reading}
 use Rattle.table_file.proofs.Back.{read_shown}
-use Rattle.bounds.specs.declared.Bounds.{Bounds}
-use Rattle.bounds.specs.Answer.{record_bounds}
 use Rattle.flat_port.proofs.Standing.{refused_first, refused_last}
 use Rattle.report_bytes.proofs.NumberBytes.{bytes_long, bytes_joined}
 use Rattle.fenuschia_c.specs.Sized.{sizing_numbers, sizing_or, sizing_file, Sized}
@@ -79,18 +76,18 @@ module _ (file output : List ℕ) (r : ReadingRecord) (e : r ≡ record_reading 
   unfolding sizing_file
   file_refused h = rw (← refused_first (read_table file).refused (first_refusal (sizing table).refused short) h refusal_is) (untouched r.refused table output h)
 
-  module _ (z : r.refused ≡ 0) (b : Bounds) (q : b ≡ record_bounds (sizing (view_table r.table))) where
+  module _ (z : r.refused ≡ 0) (b : Sizing) (q : b ≡ sizing (view_table r.table)) where
     shown : view_table r.table ≡ table
     shown = ap (λ (x : ReadingRecord). view_table x.table) e ∙ read_shown file
 
-    bounds_are : b ≡ record_bounds (sizing table)
+    bounds_are : b ≡ sizing table
     bounds_are = rw shown at q
 
     refused_is : b.refused ≡ (sizing table).refused
-    refused_is = ap (λ (x : Bounds). x.refused) bounds_are
+    refused_is = ap (λ (x : Sizing). x.refused) bounds_are
 
     later : {n : ℕ} → n ≡ first_refusal (sizing table).refused short → n ≡ first_refusal (read_table file).refused (first_refusal (sizing table).refused short)
-    later k = refused_last (read_table file).refused (first_refusal (sizing table).refused short) z refusal_is k
+    later k = refused_last (read_table file).refused (first_refusal (sizing table).refused short) (sym z ∙ refusal_is) k
 
     pub bounds_refused : (b.refused ≡ 0 → ⊥) → Sized (sizing_file file output) b.refused output
     unfolding sizing_file
@@ -98,7 +95,7 @@ module _ (file output : List ℕ) (r : ReadingRecord) (e : r ≡ record_reading 
 
     module _ (none : b.refused ≡ 0) where
       last : {n : ℕ} → n ≡ short → n ≡ first_refusal (read_table file).refused (first_refusal (sizing table).refused short)
-      last k = later (refused_last (sizing table).refused short none refused_is k)
+      last k = later (refused_last (sizing table).refused short (sym none ∙ refused_is) k)
 
       pub short_refused : length output < 256 → Sized (sizing_file file output) 9 output
       unfolding sizing_file

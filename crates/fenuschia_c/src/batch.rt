@@ -1,6 +1,23 @@
 // A batch of reports to the fresh port of a table file.
 ghost use Rattle.model.specs.Batch.{batch_file};
+ghost use Rattle.refusal.specs.Numbers.{number_or_0};
 ghost use Rattle.fenuschia_c.specs.Reported.{Reported};
+
+use refusal::{Refusal, number_or_0};
+
+fn batch(
+    file: &[u8],
+    reports: &[u8],
+    answers: &mut [u8],
+    departures: &mut [u8],
+) -> Result<(), Refusal>
+    ensures { Reported (batch_file file.now reports.now answers.old departures.old) (number_or_0 result) answers.new departures.new }
+{
+    let t = table_file::read(file)?;
+    report_bytes::check(reports, answers.len())?;
+    fresh_batch::run(t, reports, answers, departures);
+    Ok(())
+}
 
 // The reports, five numbers each, one after the other to the fresh port of the file's table: three numbers each to the
 // answers, three for each departure to the departures. Answers 0, or 1 to 7 or 23 of the reader, 19 or 20, and then writes to no byte.
@@ -12,16 +29,5 @@ pub fn fenuschia_batch(
 ) -> u32
     ensures { Reported (batch_file file.now reports.now answers.old departures.old) result answers.new departures.new }
 {
-    let reading = table_file::read(file);
-    let unread = reading.refused;
-    let refused = report_bytes::refusal(reports, answers.len());
-    if unread != 0 {
-        return unread;
-    }
-    if refused != 0 {
-        return refused;
-    }
-    let t = reading.table;
-    fresh_batch::run(t, reports, answers, departures);
-    0
+    number_or_0(batch(file, reports, answers, departures))
 }

@@ -1,10 +1,13 @@
 -- How far a batch on flat lists is: what has been answered so far, and the model's batch from here.
+use Rattle.std.specs.Prelude.{Some, None, Result, Ok, Err, ◌||◌}
+use Rattle.std.specs.Bool.{then_some}
+use Rattle.std.specs.Result.{is_ok}
 use mathlib.Core.Path.{◌≡◌, refl, sym, ap, ◌∙◌}
 use mathlib.Core.Bool.{Bool, true, false}
 use mathlib.Core.List.{List, [], ◌∷◌, ◌++◌, append-nil, append_assoc, flat_map}
-use Prim.Native.Nat.{ℕ, ◌+◌, ◌-◌, ◌*◌, ◌≤◌, ◌<◌}
+use Prim.Native.Nat.{ℕ, ◌+◌, ◌-◌, ◌*◌, ◌≤◌}
 use native.Mathlib.Omega.{arith}
-use lib.ListN.{length, get_or, take, drop, length-append, length-drop, take-append-drop, drop_of_length-le}
+use lib.ListN.{length, take, drop, length-append, length-drop, take-append-drop, drop_of_length-le}
 use lib.Seq.{take_all, take_at, drop_at, drop-drop}
 use Rattle.model.specs.Basics.{Each, done, also}
 use Rattle.model.specs.Table.{Table}
@@ -13,77 +16,83 @@ use Rattle.model.specs.Run.{Entry}
 use Rattle.model.specs.Batch.{Batched, departure_numbers, frames_freed, over}
 use Rattle.model.proofs.Lists.{flat_map_more, each_of_both}
 use Rattle.model.proofs.Batches.{Going, at_first, goes_on, at_last, entry_of, freed_more, Leaves, leaves}
-use Rattle.flat_policing.specs.Accounts.{accounts_of}
-use Rattle.flat_port.specs.declared.State.{State}
-use Rattle.flat_port.specs.declared.Reported.{Reported}
-use Rattle.flat_port.specs.Lists.{Lists, view_state, Stands}
-use Rattle.flat_port.specs.Promised.{Reports}
+use Rattle.refusal.specs.declared.Refusal.{Refusal}
+use Rattle.refusal.proofs.Numbers.{number_not_0}
+use Rattle.flat_port.specs.declared.FlatPort.{FlatPort}
+use Rattle.flat_port.specs.declared.Accepted.{Accepted}
+use Rattle.flat_port.specs.Lists.{view_flat, Stands}
+use Rattle.flat_port.specs.Promised.{Reported, answered, Behind, Reports}
 use Rattle.flat_batch.specs.Promised.{batch_of, AllRefused, Still, Ends}
 
 each_back : {A : Type 0} {P : A → Type 0} (l : List A) (x : A) → Each P (l ++ (x ∷ [])) → Each P l × P x
 each_back [] x (also p done) = (done, p)
 each_back (y ∷ l) x (also p rest) = let k = each_back l x rest in (also p k.0, k.1)
 
-pub is_accepted : {accepted : Bool} {n : ℕ} → n ≡ 0 → Still accepted n true
-is_accepted e = record { none = λ z q. absurd (z e); this = λ q. absurd (let x : ◌≡◌ {A = ℕ} 0 1 = cc in omega arith); before = λ q. absurd (let x : ◌≡◌ {A = ℕ} 0 1 = cc in omega arith) }
+one_is_zero : {A : Type 0} → true ≡ false → A
+one_is_zero e = absurd (let x : ◌≡◌ {A = ℕ} 0 1 = cc in omega arith)
 
-pub is_refused : {accepted : Bool} {n : ℕ} → (n ≡ 0 → ⊥) → Still accepted n accepted
-is_refused z = record { none = λ y q. q; this = λ q. z; before = λ q. q }
+-- with one report more
+pub still_of : (accepted : Bool) (outcome : Result Accepted Refusal) {r : Bool} → r ≡ (accepted || is_ok outcome) → Still accepted (answered outcome).refused r
+still_of true (Ok a) e = rw e (record { none = λ z q. one_is_zero q; this = λ q. one_is_zero q; before = λ q. one_is_zero q })
+still_of true (Err f) e = rw e (record { none = λ z q. q; this = λ q. one_is_zero q; before = λ q. q })
+still_of false (Ok a) e = rw e (record { none = λ z q. absurd (z refl); this = λ q. one_is_zero q; before = λ q. refl })
+still_of false (Err f) e = rw e (record { none = λ z q. refl; this = λ q. number_not_0 f; before = λ q. refl })
 
-pub record Progress (t : Table) (l₀ : Lists) (whole : Batched) (so_far : List Entry) (rest : List Report) (lent : List ℕ) (s : State) (l : Lists) (i written : ℕ) (accepted : Bool) : Type 0 where
-  pub going : Going t whole so_far (view_state t s l) rest lent
-  pub stands : Stands t s l
+pub record Progress (t : Table) (p₀ : FlatPort) (whole : Batched) (so_far : List Entry) (rest : List Report) (lent : List ℕ) (p : FlatPort) (i written : ℕ) (accepted : Bool) : Type 0 where
+  pub going : Going t whole so_far (view_flat t p) rest lent
+  pub stands : Stands t p
   pub count : length so_far ≡ i
   pub freed : frames_freed so_far ≡ written
   pub departed : length (flat_map departure_numbers so_far) ≡ 3 * written
   pub untouched : AllRefused so_far → accepted ≡ false
   pub all_refused : accepted ≡ false → AllRefused so_far
-  pub lines_behind : drop t.lines l.ticks ≡ drop t.lines l₀.ticks
-  pub accounts_behind : drop (length t.links) (accounts_of l.credits l.since) ≡ drop (length t.links) (accounts_of l₀.credits l₀.since)
-  pub tallies_behind : (j : ℕ) → 5 * length t.links ≤ j → j < 1280 → get_or l.tallies j 0 ≡ get_or l₀.tallies j 0
+  pub behind : Behind t p₀.lists p.lists
 
-pub at_start : {t : Table} {s : State} {l : Lists} (reports : List Report) (list : List ℕ) → Stands t s l → Progress t l (batch_of t s l reports list) [] reports list s l 0 0 false
+pub at_start : {t : Table} {p : FlatPort} (reports : List Report) (list : List ℕ) → Stands t p → Progress t p (batch_of t p reports list) [] reports list p 0 0 false
 unfolding frames_freed flat_map
-at_start {t} {s} {l} reports list k =
+at_start {t} {p} reports list k =
     record {
-      going = at_first t (view_state t s l) reports list;
+      going = at_first t (view_flat t p) reports list;
       stands = k;
       count = refl;
       freed = refl;
       departed = refl;
       untouched = λ x. refl;
       all_refused = λ x. done;
-      lines_behind = refl;
-      accounts_behind = refl;
-      tallies_behind = λ j a b. refl;
+      behind = record { lines = refl; accounts = refl; tallies = λ j a b. refl };
     }
 
-pub at_end : {t : Table} {l₀ : Lists} {whole : Batched} {so_far : List Entry} {lent : List ℕ} {s : State} {l : Lists} {i written : ℕ} {accepted : Bool} →
-    Progress t l₀ whole so_far [] lent s l i written accepted → Ends t l₀ whole (record { state = s; departures = written; accepted = accepted }) l
-at_end k =
+pub at_end : {t : Table} {p₀ : FlatPort} {whole : Batched} {so_far : List Entry} {lent : List ℕ} {p : FlatPort} {i written : ℕ} (accepted : Bool) →
+    Progress t p₀ whole so_far [] lent p i written accepted → Ends t p₀ whole (then_some accepted written) p
+at_end {written = written} accepted k =
     let e = at_last k.going in
     record {
       port = sym (ap (λ (b : Batched). b.port) e);
       stands = k.stands;
-      departures = sym k.freed ∙ ap frames_freed (sym (ap (λ (b : Batched). b.entries) e));
-      untouched = λ x. k.untouched (rw e at x);
-      all_refused = λ x. rw e (k.all_refused x);
-      lines_behind = k.lines_behind;
-      accounts_behind = k.accounts_behind;
-      tallies_behind = k.tallies_behind;
+      departures = λ n q. some_of accepted n q ∙ sym k.freed ∙ ap frames_freed (sym (ap (λ (b : Batched). b.entries) e));
+      untouched = λ x. rw (k.untouched (rw e at x));
+      all_refused = λ x. rw e (k.all_refused (none_of accepted x));
+      behind = k.behind;
     }
+  where
+    some_of : (b : Bool) (n : ℕ) → then_some b written ≡ Some n → n ≡ written
+    some_of true n q = let y : n ≡ written = cc in y
+    some_of false n q = absurd (let y : ◌≡◌ {A = ℕ} 0 1 = cc in omega arith)
+
+    none_of : (b : Bool) → then_some b written ≡ None → b ≡ false
+    none_of true q = absurd (let y : ◌≡◌ {A = ℕ} 0 1 = cc in omega arith)
+    none_of false q = refl
 
 -- ---- one report more
-module _ {t : Table} {l₀ : Lists} {whole : Batched} {so_far : List Entry} {r : Report} {rest : List Report} {lent : List ℕ} {s : State} {l : Lists} {i written : ℕ} {accepted : Bool}
-    (k : Progress t l₀ whole so_far (r ∷ rest) lent s l i written accepted) {after : List ℕ} {a : Reported} {l' : Lists} (x : Reports t s l r lent after a l') where
+module _ {t : Table} {p₀ : FlatPort} {whole : Batched} {so_far : List Entry} {r : Report} {rest : List Report} {lent : List ℕ} {p : FlatPort} {i written : ℕ} {accepted : Bool}
+    (k : Progress t p₀ whole so_far (r ∷ rest) lent p i written accepted) {after : List ℕ} {a : Reported} {p' : FlatPort} (x : Reports t p r lent after a p') where
   abbrev entry : Entry
-  entry = entry_of t (view_state t s l) r lent
+  entry = entry_of t (view_flat t p) r lent
 
   pub left : Leaves lent entry
-  left = leaves t (view_state t s l) r lent
+  left = leaves t (view_flat t p) r lent
 
-  pub one_more : {flag : Bool} → Still accepted a.refused flag →
-      Progress t l₀ whole (so_far ++ (entry ∷ [])) rest (drop (3 * a.frames) lent) a.state l' (i + 1) (written + a.frames) flag
+  pub one_more : {flag : Bool} → Still accepted a.refused flag → Progress t p₀ whole (so_far ++ (entry ∷ [])) rest (drop (3 * a.frames) lent) p' (i + 1) (written + a.frames) flag
   one_more {flag} f =
       record {
         going = rw (x.port, x.frames, ← left.rest) (goes_on k.going);
@@ -93,9 +102,11 @@ module _ {t : Table} {l₀ : Lists} {whole : Batched} {so_far : List Entry} {r :
         departed = rw (flat_map_more departure_numbers so_far entry, length-append) (omega (arith, k.departed, left.written, x.frames));
         untouched = λ y. let z = each_back so_far entry y in f.none (λ q. z.1 (sym x.refused ∙ q)) (k.untouched z.0);
         all_refused = λ q. each_of_both (k.all_refused (f.before q)) (also (λ z. f.this q (x.refused ∙ z)) done);
-        lines_behind = x.lines_behind ∙ k.lines_behind;
-        accounts_behind = x.accounts_behind ∙ k.accounts_behind;
-        tallies_behind = λ j a b. x.tallies_behind j a b ∙ k.tallies_behind j a b;
+        behind = record {
+          lines = x.behind.lines ∙ k.behind.lines;
+          accounts = x.behind.accounts ∙ k.behind.accounts;
+          tallies = λ j a b. x.behind.tallies j a b ∙ k.behind.tallies j a b;
+        };
       }
 
 -- ---- the list whose rest is lent, numbers at its start

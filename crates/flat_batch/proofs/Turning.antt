@@ -1,43 +1,31 @@
 -- The loop over reports in numbers.
+use Rattle.std.specs.Bool.{then_some}
+use borrow.Rule.Slice.PartMut.{put_mid}
 use mathlib.Core.Path.{◌≡◌, refl, sym, ap, ◌∙◌}
 use mathlib.Core.Bool.{Bool, false}
 use mathlib.Core.List.{List, [], ◌∷◌, ◌++◌, flat_map}
-use Prim.Native.Nat.{ℕ, zero, suc, ◌+◌, ◌-◌, ◌*◌, ◌/◌, ◌^◌, ◌≤◌, ◌<◌}
+use Prim.Native.Nat.{ℕ, ◌+◌, ◌-◌, ◌*◌, ◌/◌, ◌^◌, ◌≤◌, ◌<◌}
 use native.Mathlib.Omega.{arith}
-use lib.ListN.{length, get_or, set, take, drop, length-append, length-drop}
+use lib.ListN.{length, take, drop, length-append, length-drop}
 use lib.Seq.{drop-drop}
 use Rattle.model.specs.Table.{Table}
-use Rattle.model.specs.Report.{Report, wait, frame}
+use Rattle.model.specs.Report.{Report}
 use Rattle.model.specs.Run.{Entry}
-use Rattle.model.specs.Batch.{Batched, report_of, reports_in, answer_numbers, departure_numbers, over}
+use Rattle.model.specs.Batch.{Batched, reports_in, answer_numbers, departure_numbers, over}
 use Rattle.model.proofs.Lists.{length-flat_map, flat_map_more}
 use Rattle.model.proofs.Reports.{report_at, report_next, no_report}
 use Rattle.model.proofs.Batches.{over_more, at_last, entry_of}
-use Rattle.port_scheduler.proofs.Departed.{three_set}
-use Rattle.flat_port.specs.declared.State.{State}
-use Rattle.flat_port.specs.declared.Reported.{Reported}
-use Rattle.flat_port.specs.Lists.{Lists, view_state, Stands}
-use Rattle.flat_port.specs.Promised.{Reports}
+use Rattle.flat_queues.proofs.Slots.{three_put}
+use Rattle.flat_port.specs.declared.FlatPort.{FlatPort}
+use Rattle.flat_port.specs.Lists.{view_flat, Stands}
+use Rattle.flat_port.specs.Promised.{Reported, Reports}
 use Rattle.flat_batch.specs.Promised.{batch_of, Still, Ends, Answers}
 use Rattle.flat_batch.proofs.Progress.{Progress, at_start, at_end, left, one_more, start_fits, rest_lent, rest_back}
 
--- ---- a report by its five numbers
-pub wait_at_lem : (l : List ℕ) (at : ℕ) → get_or l at 0 ≡ 0 → wait (get_or l (at + 1) 0) ≡ report_at l at
-unfolding report_of
-wait_at_lem l at e = rw e
-
-pub frame_at : (l : List ℕ) (at : ℕ) → (get_or l at 0 ≡ 0 → ⊥) → frame (get_or l (at + 1) 0) (get_or l (at + 2) 0) (get_or l (at + 3) 0) (get_or l (at + 4) 0) ≡ report_at l at
-unfolding report_of
-frame_at l at z = go (get_or l at 0) refl
-  where
-    go : (n : ℕ) → get_or l at 0 ≡ n → frame (get_or l (at + 1) 0) (get_or l (at + 2) 0) (get_or l (at + 3) 0) (get_or l (at + 4) 0) ≡ report_of n (get_or l (at + 1) 0) (get_or l (at + 2) 0) (get_or l (at + 3) 0) (get_or l (at + 4) 0)
-    go zero e = absurd (z e)
-    go (suc n) e = refl
-
 -- ---- the loop
-pub record Turning (t : Table) (l₀ : Lists) (whole : Batched) (reports answers₀ list₀ : List ℕ) (s : State) (l : Lists) (i written : ℕ) (accepted : Bool) (answers list : List ℕ) : Type 0 where
+pub record Turning (t : Table) (p₀ : FlatPort) (whole : Batched) (reports answers₀ list₀ : List ℕ) (p : FlatPort) (i written : ℕ) (accepted : Bool) (answers list : List ℕ) : Type 0 where
   pub so_far : List Entry
-  pub progress : Progress t l₀ whole so_far (reports_in (drop (5 * i) reports)) (drop (3 * written) list₀) s l i written accepted
+  pub progress : Progress t p₀ whole so_far (reports_in (drop (5 * i) reports)) (drop (3 * written) list₀) p i written accepted
   pub answers_are : answers ≡ over (flat_map answer_numbers so_far) answers₀
   pub list_is : list ≡ over (flat_map departure_numbers so_far) list₀
   pub answers_long : length answers ≡ length answers₀
@@ -51,20 +39,20 @@ pub record Turning (t : Table) (l₀ : Lists) (whole : Batched) (reports answers
 pub further : (w f : ℕ) (list : List ℕ) → drop (3 * f) (drop (3 * w) list) ≡ drop (3 * (w + f)) list
 further w f list = let e : 3 * (w + f) ≡ 3 * w + 3 * f = omega arith in rw e (drop-drop (3 * f) (3 * w) list)
 
-pub starts : {t : Table} {s : State} {l : Lists} (reports answers list : List ℕ) → Stands t s l → 3 * (length reports / 5) ≤ length answers → 8 * length reports < 2 ^ 64 → 8 * length list < 2 ^ 64 →
-    Turning t l (batch_of t s l (reports_in reports) list) reports answers list s l 0 0 false answers list
+pub starts : {t : Table} {p : FlatPort} (reports answers list : List ℕ) → Stands t p → 3 * (length reports / 5) ≤ length answers → 8 * length reports < 2 ^ 64 → 8 * length list < 2 ^ 64 →
+    Turning t p (batch_of t p (reports_in reports) list) reports answers list p 0 0 false answers list
 unfolding flat_map
 starts reports answers list k h a b =
     record { so_far = []; progress = at_start (reports_in reports) list k; answers_are = refl; list_is = refl; answers_long = refl; list_long = refl; enough = h; some_left = omega arith; reports_short = a; list_short = b }
 
-module _ {t : Table} {l₀ : Lists} {whole : Batched} {reports answers₀ list₀ : List ℕ} {s : State} {l : Lists} {i written : ℕ} {accepted : Bool} {answers list : List ℕ}
-    (k : Turning t l₀ whole reports answers₀ list₀ s l i written accepted answers list) where
-  pub over_all : length reports / 5 ≤ i → Ends t l₀ whole (record { state = s; departures = written; accepted = accepted }) l × Answers whole answers₀ answers list₀ list
+module _ {t : Table} {p₀ : FlatPort} {whole : Batched} {reports answers₀ list₀ : List ℕ} {p : FlatPort} {i written : ℕ} {accepted : Bool} {answers list : List ℕ}
+    (k : Turning t p₀ whole reports answers₀ list₀ p i written accepted answers list) where
+  pub over_all : length reports / 5 ≤ i → Ends t p₀ whole (then_some accepted written) p × Answers whole answers₀ answers list₀ list
   over_all h =
       let none : reports_in (drop (5 * i) reports) ≡ [] = no_report (drop (5 * i) reports) (rw length-drop (omega (arith, k.some_left))) in
-      let p : Progress t l₀ whole k.so_far [] (drop (3 * written) list₀) s l i written accepted = rw none at k.progress in
-      let e : whole.entries ≡ k.so_far = ap (λ (b : Batched). b.entries) (at_last p.going) in
-      (at_end p, record { answers_are = rw e k.answers_are; list_is = rw e k.list_is })
+      let q : Progress t p₀ whole k.so_far [] (drop (3 * written) list₀) p i written accepted = rw none at k.progress in
+      let e : whole.entries ≡ k.so_far = ap (λ (b : Batched). b.entries) (at_last q.going) in
+      (at_end accepted q, record { answers_are = rw e k.answers_are; list_is = rw e k.list_is })
 
   pub room_left : 3 * written ≤ length list
   room_left = rw k.list_long (start_fits list₀ (flat_map departure_numbers k.so_far) k.progress.departed k.list_is k.list_long)
@@ -72,20 +60,20 @@ module _ {t : Table} {l₀ : Lists} {whole : Batched} {reports answers₀ list�
   pub lent : take (length list - 3 * written) (drop (3 * written) list) ≡ drop (3 * written) list₀
   lent = rest_lent list₀ (flat_map departure_numbers k.so_far) k.progress.departed k.list_is k.list_long
 
-  module _ (h : i < length reports / 5) {r : Report} (re : r ≡ report_at reports (5 * i)) {part : List ℕ} {a : Reported} {l' : Lists}
-      (x : Reports t s l r (take (length list - 3 * written) (drop (3 * written) list)) part a l') where
-    now_due : Progress t l₀ whole k.so_far (r ∷ reports_in (drop (5 * (i + 1)) reports)) (drop (3 * written) list₀) s l i written accepted
+  module _ (h : i < length reports / 5) {r : Report} (re : r ≡ report_at reports (5 * i)) {part : List ℕ} {a : Reported} {p' : FlatPort}
+      (x : Reports t p r (take (length list - 3 * written) (drop (3 * written) list)) part a p') where
+    now_due : Progress t p₀ whole k.so_far (r ∷ reports_in (drop (5 * (i + 1)) reports)) (drop (3 * written) list₀) p i written accepted
     now_due = rw re (rw (report_next reports i (omega arith)) at k.progress)
 
-    reported : Reports t s l r (drop (3 * written) list₀) part a l'
+    reported : Reports t p r (drop (3 * written) list₀) part a p'
     reported = rw lent at x
 
     abbrev entry : Entry
-    entry = entry_of t (view_state t s l) r (drop (3 * written) list₀)
+    entry = entry_of t (view_flat t p) r (drop (3 * written) list₀)
 
-    answers_more : {n m : ℕ} → n ≡ a.refused → m ≡ a.verdict → take (3 * i) answers ++ (n ∷ m ∷ a.frames ∷ drop (3 * i + 3) answers) ≡ over (flat_map answer_numbers k.so_far ++ answer_numbers entry) answers₀
-    answers_more ne me =
-        rw (ne, me, reported.refused, reported.verdict, reported.frames)
+    answers_more : take (3 * i) answers ++ (a.refused ∷ a.verdict ∷ a.frames ∷ drop (3 * i + 3) answers) ≡ over (flat_map answer_numbers k.so_far ++ answer_numbers entry) answers₀
+    answers_more =
+        rw (reported.refused, reported.verdict, reported.frames)
         (over_more (flat_map answer_numbers k.so_far) (answer_numbers entry) answers₀ answers (3 * i) (length-flat_map answer_numbers 3 (λ e. refl) k.so_far ∙ rw k.progress.count) k.answers_are)
 
     list_more : take (3 * written) list ++ (part ++ drop (length list - 3 * written) (drop (3 * written) list)) ≡ over (flat_map departure_numbers k.so_far ++ departure_numbers entry) list₀
@@ -104,17 +92,17 @@ module _ {t : Table} {l₀ : Lists} {whole : Batched} {reports answers₀ list�
         let n : length (flat_map departure_numbers k.so_far ++ departure_numbers entry) ≡ 3 * (written + a.frames) = rw length-append (omega (arith, k.progress.departed, away.written, reported.frames)) in
         omega (arith, start_fits list₀ (flat_map departure_numbers k.so_far ++ departure_numbers entry) n (le ∙ list_more) (ll ∙ k.list_long), k.list_long)
 
-    pub turns : {flag : Bool} → Still accepted a.refused flag → {n m : ℕ} → n ≡ a.refused → m ≡ a.verdict → {answers' list' : List ℕ} →
-        answers' ≡ set (set (set answers (3 * i) n) (3 * i + 1) m) (3 * i + 2) a.frames →
+    pub turns : {flag : Bool} → Still accepted a.refused flag → {freed : ℕ} {numbers answers' list' : List ℕ} → freed ≡ a.frames → numbers ≡ a.refused ∷ a.verdict ∷ a.frames ∷ [] →
+        answers' ≡ put_mid (3 * i) (3 * i + 3 - 3 * i) answers numbers →
         list' ≡ take (3 * written) list ++ (part ++ drop (length list - 3 * written) (drop (3 * written) list)) → length answers' ≡ length answers → length list' ≡ length list →
-        Turning t l₀ whole reports answers₀ list₀ a.state l' (i + 1) (written + a.frames) flag answers' list'
-    turns f {n} {m} ne me {answers'} {list'} ae le al ll =
+        Turning t p₀ whole reports answers₀ list₀ p' (i + 1) (written + freed) flag answers' list'
+    turns f {freed} {numbers} {answers'} {list'} fe ne ae le al ll =
         let next = one_more now_due reported f in
         let e = entry in
         record {
           so_far = k.so_far ++ (e ∷ []);
-          progress = rw (further written a.frames list₀) at next;
-          answers_are = ae ∙ three_set answers (3 * i) n m a.frames (omega (arith, k.answers_long, k.enough)) ∙ answers_more ne me ∙ sym (ap (λ (ys : List ℕ). over ys answers₀) (flat_map_more answer_numbers k.so_far e));
+          progress = rw fe (rw (further written a.frames list₀) at next);
+          answers_are = ae ∙ three_put answers (3 * i) _ _ _ ne ∙ answers_more ∙ sym (ap (λ (ys : List ℕ). over ys answers₀) (flat_map_more answer_numbers k.so_far e));
           list_is = le ∙ list_more ∙ sym (ap (λ (ys : List ℕ). over ys list₀) (flat_map_more departure_numbers k.so_far e));
           answers_long = al ∙ k.answers_long;
           list_long = ll ∙ k.list_long;

@@ -1,5 +1,4 @@
-pub mod Standing
 pub mod Judged
 pub mod Verdicts
+pub mod Standing
 pub mod Reporting
-pub mod Answering

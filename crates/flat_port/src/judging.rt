@@ -1,59 +1,62 @@
-// The verdict of a frame that has wholly arrived: filtered (1), policed (2), dropped (3) or stored (0).
-ghost use Rattle.std.specs.Prelude.{◌<◌};
-ghost use Rattle.model.specs.Report.{frame as frameReport};
-ghost use Rattle.flat_table.specs.View.{view_words};
-ghost use Rattle.flat_port.specs.Lists.{lists};
-ghost use Rattle.flat_port.specs.Promised.{Worded, Arrived, judge_counted, Gives};
+// The verdict of a frame that has wholly arrived.
+ghost use Rattle.std.specs.Prelude.{◌≡◌};
+ghost use Rattle.model.specs.Report.{frame as frameReport, judge_report};
+ghost use Rattle.table.specs.View.{view_table};
+ghost use Rattle.port_refusals.specs.Verdicts.{verdict_of};
+ghost use Rattle.table_lookup.specs.Places.{Found};
+ghost use Rattle.flat_port.specs.Promised.{Arrived, judge_counted, Gives};
 
+use crate::Lists;
 use counters::tally;
-use table_lookup::Place;
+use port_refusals::Verdict;
+use table::Table;
 
-// First the line's tick, then the filter, then the police check, then the store; and the frame counts by its number.
-pub(crate) fn judge(
-    words: &[u64],
-    numbers: &[u16],
-    frames: &mut [u64],
-    heads: &[u64],
-    counts: &mut [u64],
-    held: &mut [u64],
-    marks: &mut [u64],
-    ticks: &mut [u64],
-    credits: &mut [u64],
-    since: &mut [u64],
-    tallies: &mut [u64],
-    line: u64,
-    number: u64,
-    length: u64,
-    time: u64,
-) -> u32
-    requires { Worded words.now numbers.now × Arrived (view_words words.now numbers.now) (lists frames.old heads.now counts.old held.old marks.old ticks.old credits.old since.old tallies.old) line «length» }
-    ensures { Gives (view_words words.now numbers.now) (lists frames.old heads.now counts.old held.old marks.old ticks.old credits.old since.old tallies.old) (judge_counted (view_words words.now numbers.now) (frameReport time line number «length»)) result (lists frames.new heads.now counts.new held.new marks.new ticks.new credits.new since.new tallies.new) }
-{
-    ticks[line as usize] = time;
-    let place = flat_table::place(words, numbers, number);
-    let Place::At(i) = flat_table::admitted(words, place, line, length) else {
-        tally(tallies, place, 1);
-        return 1;
-    };
-    let at = 8 * i;
-    let bag = flat_table::link_bag(words, i);
-    if !flat_policing::charge(credits, since, i, bag, words[at + 3], time) {
-        tally(tallies, place, 2);
-        return 2;
+impl Lists {
+    // First the line's tick, then the filter, then the police check, then the store. No count is touched.
+    fn verdict(
+        &mut self,
+        table: &Table,
+        place: Option<usize>,
+        line: u64,
+        number: u64,
+        length: u64,
+        time: u64,
+    ) -> Verdict
+        requires { Arrived (view_table table.now) self.old line «length» × Found table.now.numbers table.now.count number place }
+        ensures { Gives (view_table table.now) self.old (λ s. judge_report (view_table table.now) s (frameReport time line number «length»)) (verdict_of result) self.new × (self.new.tallies ≡ self.old.tallies) }
+    {
+        self.ticks[line as usize] = time;
+        let Some(i) = place else {
+            return Verdict::Filtered;
+        };
+        let link = table.links[i];
+        if !port_filter::admits(link, line, length) {
+            return Verdict::Filtered;
+        }
+        let bag = table::bag(link.code);
+        if !port_policing::charge(&mut self.accounts[i], bag, u64::from(link.jitter), time) {
+            return Verdict::Policed;
+        }
+        let p = usize::from(link.priority);
+        let size = u64::from(table.sizes[p]);
+        flat_storing::settle(&mut self.rings, p, size, number, length, time)
     }
-    let p = words[at + 1] as usize;
-    let verdict = flat_storing::settle(
-        frames,
-        heads,
-        counts,
-        held,
-        marks,
-        p,
-        words[2048 + p],
-        number,
-        length,
-        time,
-    );
-    tally(tallies, place, verdict);
-    verdict
+
+    // The frame counts by its number, whatever its line and length.
+    pub(crate) fn judge(
+        &mut self,
+        table: &Table,
+        line: u64,
+        number: u64,
+        length: u64,
+        time: u64,
+    ) -> Verdict
+        requires { Arrived (view_table table.now) self.old line «length» }
+        ensures { Gives (view_table table.now) self.old (judge_counted (view_table table.now) (frameReport time line number «length»)) (verdict_of result) self.new }
+    {
+        let place = table_lookup::place_of(&table.numbers, table.count, number);
+        let verdict = self.verdict(table, place, line, number, length, time);
+        tally(&mut self.tallies, place, verdict);
+        verdict
+    }
 }

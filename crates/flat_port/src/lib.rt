@@ -1,108 +1,116 @@
-// Internal to the product: a report to a port that stands in lent flat lists of numbers, so that nothing is copied.
+// Internal to the product: a report to a port whose queues are rings and whose counts are one flat list; nothing is copied.
 #![tactic(auto)]
 
 mod judging;
 mod refusals;
 
 ghost use Rattle.std.specs.Prelude.{◌≡◌};
+ghost use Rattle.table.specs.View.{view_table};
 ghost use Rattle.port_refusals.specs.Reports.{view_report};
-ghost use Rattle.flat_table.specs.View.{view_words};
-ghost use Rattle.flat_port.specs.Lists.{lists, Stands};
-ghost use Rattle.flat_port.specs.Promised.{Worded, stored_by as storedFrames, Reports};
+ghost use Rattle.port_refusals.specs.Verdicts.{verdict_of};
+ghost use Rattle.flat_port.specs.Lists.{Stands};
+ghost use Rattle.flat_port.specs.Promised.{answered, answer_numbers, stored_by as storedFrames, Reports};
 
-use port_refusals::Report;
-use port_scheduler::Sender;
+use flat_queues::Rings;
+use port_policing::Account;
+use port_refusals::{Report, Verdict, verdict_or_0};
+use port_scheduler::Sending;
+use refusal::Refusal;
+use table::Table;
+
+// The queues; for each line the tick of its last frame; for each virtual link its account; counts of frames, five numbers a link.
+#[derive(Drop)]
+pub struct Lists {
+    pub rings: Rings,
+    pub ticks: [u64; 24],
+    pub accounts: [Account; 256],
+    pub tallies: [u64; 1281],
+}
 
 // The clock, who sends, and how many frames the queues hold.
 #[derive(Clone, Copy)]
 pub struct State {
     pub clock: u64,
-    pub sender: Sender,
+    pub sender: Option<Sending>,
     pub frames: u64,
 }
 
-// 0 or the number of the refusal, 11 to 16; verdict and frames freed, both 0 with a refusal; and the state afterwards.
-#[derive(Clone, Copy)]
-pub struct Reported {
-    pub refused: u32,
-    pub verdict: u32,
-    pub frames: u64,
+#[derive(Drop)]
+pub struct FlatPort {
+    pub lists: Lists,
     pub state: State,
 }
 
-fn stored(verdict: u32) -> u64
-    ensures { result ≡ storedFrames verdict }
-{
-    if verdict == 0 { 1 } else { 0 }
+// Of an accepted report: the verdict on its frame, if it is no wait, and how many frames were freed.
+#[derive(Clone, Copy)]
+pub struct Accepted {
+    pub verdict: Option<Verdict>,
+    pub frames: u64,
 }
 
-// A report to a port that is fit; it stays so.
-pub fn report(
-    words: &[u64],
-    numbers: &[u16],
-    frames: &mut [u64],
-    heads: &mut [u64],
-    counts: &mut [u64],
-    held: &mut [u64],
-    marks: &mut [u64],
-    ticks: &mut [u64],
-    credits: &mut [u64],
-    since: &mut [u64],
-    tallies: &mut [u64],
-    state: State,
-    report: Report,
-    list: &mut [u64],
-) -> Reported
-    requires { Worded words.now numbers.now × Stands (view_words words.now numbers.now) state (lists frames.old heads.old counts.old held.old marks.old ticks.old credits.old since.old tallies.old) }
-    ensures { Reports (view_words words.now numbers.now) state (lists frames.old heads.old counts.old held.old marks.old ticks.old credits.old since.old tallies.old) (view_report report) list.old list.new result (lists frames.new heads.new counts.new held.new marks.new ticks.new credits.new since.new tallies.new) }
+// The three numbers of an answer: 0 or the number of the refusal; verdict and frames freed, both 0 with a refusal.
+pub fn numbers(outcome: Result<Accepted, Refusal>) -> [u64; 3]
+    ensures { result ≡ answer_numbers outcome }
 {
-    let refused = refusals::refusal(words, ticks, state, report, list.len());
-    if refused != 0 {
-        return Reported {
-            refused,
-            verdict: 0, // none
-            frames: 0,
-            state,
-        };
+    match outcome {
+        Ok(accepted) => [
+            0,
+            u64::from(verdict_or_0(accepted.verdict)),
+            accepted.frames,
+        ],
+        Err(refusal) => [u64::from(refusal.number()), 0, 0],
     }
-    let time = port_refusals::tick_of(report);
-    let sending = state.sender;
-    let moved = flat_scheduler::advance(
-        frames,
-        heads,
-        counts,
-        held,
-        sending,
-        state.clock,
-        time,
-        list,
-    );
-    let sender = moved.sender;
-    let left = state.frames - moved.frames;
-    let Report::Frame(_, line, number, length) = report else {
-        return Reported {
-            refused: 0,
-            verdict: 0,
-            frames: moved.frames,
-            state: State {
+}
+
+// How many frames more the queues hold.
+#[tactic(auto, unfolding(crate::specs::Promised::stored_by))]
+fn stored(verdict: Verdict) -> u64
+    ensures { result ≡ storedFrames (verdict_of verdict) }
+{
+    match verdict {
+        Verdict::Stored => 1,
+        _ => 0,
+    }
+}
+
+impl FlatPort {
+    // A report to a port that is fit; it stays so.
+    pub fn report(
+        &mut self,
+        table: &Table,
+        report: Report,
+        list: &mut [u64],
+    ) -> Result<Accepted, Refusal>
+        requires { Stands (view_table table.now) self.old }
+        ensures { Reports (view_table table.now) self.old (view_report report) list.old list.new (answered result) self.new }
+    {
+        let state = self.state;
+        let lines = u64::from(table.lines);
+        refusals::check(lines, &self.lists.ticks, state, report, list.len())?;
+        let time = port_refusals::tick_of(report);
+        let rings = &mut self.lists.rings;
+        let moved = flat_scheduler::advance(rings, state.sender, state.clock, time, list);
+        let left = state.frames - moved.frames;
+        let Report::Frame(_, line, number, length) = report else {
+            self.state = State {
                 clock: time,
-                sender,
+                sender: moved.sender,
                 frames: left,
-            },
+            };
+            return Ok(Accepted {
+                verdict: None,
+                frames: moved.frames,
+            });
         };
-    };
-    let verdict = judging::judge(
-        words, numbers, frames, heads, counts, held, marks, ticks, credits, since, tallies, line,
-        number, length, time,
-    );
-    Reported {
-        refused: 0,
-        verdict,
-        frames: moved.frames,
-        state: State {
+        let verdict = self.lists.judge(table, line, number, length, time);
+        self.state = State {
             clock: time,
-            sender,
+            sender: moved.sender,
             frames: left + stored(verdict),
-        },
+        };
+        Ok(Accepted {
+            verdict: Some(verdict),
+            frames: moved.frames,
+        })
     }
 }

@@ -1,11 +1,23 @@
-// Internal to the product: queues of frames as rings in lent flat lists: 256 slots a ring, three numbers a slot.
-// heads: the place of the oldest frame of each ring, modulo 256. counts: how many frames each ring holds.
+// Internal to the product: queues of frames as rings in flat arrays: 256 slots a ring, three numbers a slot.
 #![tactic(auto)]
 
-ghost use Rattle.std.specs.Prelude.{◌≡◌, List, ℕ, ◌+◌, ◌<◌, ◌≤◌, length, get_or, set};
+ghost use Rattle.std.specs.Prelude.{◌≡◌, List, ℕ, ◌<◌, length, get_or};
 ghost use Rattle.model.specs.Machine.{without_head, queued_last};
 ghost use Rattle.model.specs.Report.{arrived};
-ghost use Rattle.flat_queues.specs.View.{slot_of, rings_of, Room};
+ghost use Rattle.flat_queues.specs.View.{slot_of, rings_of, no_frames, queues_in, Room, HasRoom, Kept};
+
+use units::LIST_ROOM;
+
+// heads: the place of the oldest frame of each ring, modulo 256. counts: how many frames each ring holds. held: how many
+// bytes they take of the buffer. marks: the most that they ever took.
+#[derive(Drop)]
+pub struct Rings {
+    pub frames: [u64; LIST_ROOM],
+    pub heads: [u64; 8],
+    pub counts: [u64; 8],
+    pub held: [u64; 8],
+    pub marks: [u64; 8],
+}
 
 // Where the three numbers of a place of ring p stand.
 pub fn slot(p: usize, place: u64) -> usize
@@ -16,26 +28,16 @@ pub fn slot(p: usize, place: u64) -> usize
     3 * (256 * p + round)
 }
 
-// Ring p without its oldest frame.
+// Of up to 32 rings in lent lists: ring p without its oldest frame.
 pub fn pop(heads: &mut [u64], counts: &mut [u64], p: usize)
     requires { (p < length heads.old) × (p < length counts.old) × (0 < get_or counts.old p 0) }
     ensures { (frames : List ℕ) → rings_of frames heads.new counts.new ≡ without_head (rings_of frames heads.old counts.old) p }
 {
     heads[p] = heads[p] % 256 + 1;
-    counts[p] = counts[p] - 1;
+    counts[p] -= 1;
 }
 
-// Three numbers into a list.
-pub fn put(list: &mut [u64], k: usize, a: u64, b: u64, c: u64)
-    requires { k + 3 ≤ length list.old }
-    ensures { list.new ≡ set (set (set list.old k a) (k + 1) b) (k + 2) c }
-{
-    list[k] = a;
-    list[k + 1] = b;
-    list[k + 2] = c;
-}
-
-// Ring p with one frame more, the last.
+// Of up to 32 rings in lent lists: ring p with one frame more, the last.
 pub fn push(
     frames: &mut [u64],
     heads: &[u64],
@@ -49,6 +51,46 @@ pub fn push(
     ensures { rings_of frames.new heads.now counts.new ≡ queued_last (rings_of frames.old heads.now counts.old) p (arrived number bytes arrival) }
 {
     let n = counts[p];
-    put(frames, slot(p, heads[p] % 256 + n), number, bytes, arrival);
+    let at = slot(p, heads[p] % 256 + n);
+    frames[at..at + 3].copy_from_slice(&[number, bytes, arrival]);
     counts[p] = n + 1;
+}
+
+impl Rings {
+    // Rings that hold no frame.
+    pub fn empty() -> Rings
+        ensures { result ≡ no_frames }
+    {
+        Rings {
+            frames: [0; LIST_ROOM],
+            heads: [0; 8],
+            counts: [0; 8],
+            held: [0; 8],
+            marks: [0; 8],
+        }
+    }
+
+    // Ring p without its oldest frame.
+    pub fn pop(&mut self, p: usize)
+        requires { (p < 8) × (0 < get_or self.old.counts p 0) }
+        ensures { (queues_in self.new ≡ without_head (queues_in self.old) p) × Kept self.old self.new }
+    {
+        pop(&mut self.heads, &mut self.counts, p);
+    }
+
+    // Ring p with one frame more, the last.
+    pub fn push(&mut self, p: usize, number: u64, bytes: u64, arrival: u64)
+        requires { HasRoom p self.old.counts }
+        ensures { (queues_in self.new ≡ queued_last (queues_in self.old) p (arrived number bytes arrival)) × Kept self.old self.new }
+    {
+        push(
+            &mut self.frames,
+            &self.heads,
+            &mut self.counts,
+            p,
+            number,
+            bytes,
+            arrival,
+        );
+    }
 }

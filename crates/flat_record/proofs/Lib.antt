@@ -1,4 +1,3 @@
-pub mod Copied
 pub mod Filled
 pub mod Reading
 pub mod Rows

@@ -1,7 +1,8 @@
 -- Rings: their counts and heads, who starts, the held bytes without a head; what an advance comes to where it ends.
-use mathlib.Core.Path.{◌≡◌, refl, ◌∙◌}
+use Rattle.std.specs.List.{AllWithin, HoldsAt}
+use mathlib.Core.Path.{◌≡◌, refl}
 use mathlib.Core.List.{List, []}
-use Prim.Native.Nat.{ℕ, zero, suc, ◌+◌, ◌-◌, ◌≤◌, ◌<◌}
+use Prim.Native.Nat.{ℕ, zero, suc, ◌+◌, ◌-◌, ◌<◌}
 use native.Mathlib.Decide.{ℕ_discrete}
 use native.Mathlib.Omega.{arith}
 use lib.ListN.{length, get_or, drop, set, length-set}
@@ -13,7 +14,7 @@ use Rattle.port_scheduler.proofs.Starts.{waits_at, waits_nowhere, starts_at, sta
 use Rattle.port_scheduler.proofs.Progress.{Progress}
 use Rattle.flat_queues.specs.View.{slot_of, frame_at, ring, rings_of}
 use Rattle.flat_queues.proofs.Rounds.{length_ring, length_rings, ring_at}
-use Rattle.flat_scheduler.specs.Promised.{Flat, Holds, Advanced}
+use Rattle.flat_scheduler.specs.Promised.{Holds, Advanced}
 
 -- ---- rings: their counts and heads
 pub ring_count : (l heads counts : List ℕ) (p : ℕ) → length (queue_of (rings_of l heads counts) p) ≡ get_or counts p 0
@@ -37,40 +38,30 @@ module _ (l heads counts : List ℕ) (p : ℕ) {from : ℕ} (e : from ≡ slot_o
   pub head_length : get_or l (from + 1) 0 ≡ (head_of (rings_of l heads counts) p).length
   head_length = rw (e, ring_head l heads counts p w)
 
-module _ (counts : List ℕ) (i : ℕ) (before : (j : ℕ) → j < i → get_or counts j 0 ≡ 0) (m : ℕ) (l heads : List ℕ) where
-  pub starts_here : i < length counts → 0 < get_or counts i 0 → sending i m ≡ start_if_any m (highest_waiting (rings_of l heads counts))
-  starts_here h w =
+-- ---- who starts
+module _ (l heads counts : List ℕ) (m : ℕ) where
+  pub starts_here : (i : ℕ) → (i < length counts) × HoldsAt (λ n. 0 < n) counts i × AllWithin (λ n. n ≡ 0) counts 0 i → sending i m ≡ start_if_any m (highest_waiting (rings_of l heads counts))
+  starts_here i h =
       starts_at m (rings_of l heads counts)
-      (waits_at (rings_of l heads counts) i (rw length_rings h) (λ j k. rw ring_count (before j k)) (rw ring_count w))
+      (waits_at (rings_of l heads counts) i (rw length_rings h.0) (λ j k. rw ring_count (h.2 j 0 (omega arith) k)) (rw ring_count (h.1 0)))
 
-  pub starts_none : length counts ≤ i → idle ≡ start_if_any m (highest_waiting (rings_of l heads counts))
+  pub starts_none : AllWithin (λ n. n ≡ 0) counts 0 (length counts) → idle ≡ start_if_any m (highest_waiting (rings_of l heads counts))
   starts_none h =
       starts_nowhere m (rings_of l heads counts)
-      (waits_nowhere (rings_of l heads counts) (λ j k. rw ring_count (before j (omega (arith, length_rings l heads 0 counts)))))
-
-pub none_more : (counts : List ℕ) (i : ℕ) → ((j : ℕ) → j < i → get_or counts j 0 ≡ 0) → get_or counts i 0 ≡ 0 → (j : ℕ) → j < i + 1 → get_or counts j 0 ≡ 0
-none_more counts i before e j h = go (ℕ_discrete j i)
-  where
-    go : Dec (j ≡ i) → get_or counts j 0 ≡ 0
-    go (yes x) = rw x e
-    go (no n) = before j (omega arith)
+      (waits_nowhere (rings_of l heads counts) (λ j k. rw ring_count (h j 0 (omega arith) (rw length_rings at k))))
 
 -- ---- the held bytes without the head
-pub holds_less : {held : List ℕ} {queues : List (List Frame)} → Holds held queues → length queues ≡ 8 → (p x : ℕ) → p < 8 → 0 < length (queue_of queues p) →
+pub holds_less : {held : List ℕ} {queues : List (List Frame)} → Holds held queues → (p x : ℕ) → p < 8 → 0 < length (queue_of queues p) →
     x ≡ (head_of queues p).length → Holds (set held p (get_or held p 0 - occupied x)) (without_head queues p)
-holds_less {held} {queues} k e p x h w ex = record { eight = rw length-set k.eight; bytes_are = λ q b. go q b (ℕ_discrete q p) }
+holds_less {held} {queues} k p x h w ex = record { queues_eight = rw length-set k.queues_eight; eight = rw length-set k.eight; bytes_are = λ q b. go q b (ℕ_discrete q p) }
   where
     go : (q : ℕ) → q < 8 → Dec (q ≡ p) → get_or (set held p (get_or held p 0 - occupied x)) q 0 ≡ heldBytes (queue_of (without_head queues p) q)
     go q b (yes d) =
         let u : p < length held = omega (arith, k.eight) in
-        let v : p < length queues = omega arith in
+        let v : p < length queues = omega (arith, k.queues_eight) in
         rw (d, get_or-set_same held p (get_or held p 0 - occupied x) 0 u, get_or-set_same queues p (drop 1 (queue_of queues p)) [] v, k.bytes_are p h, ex)
         (omega (arith, bytes_tail occupied (queue_of queues p) w))
     go q b (no d) = rw (get_or-set_other held p q (get_or held p 0 - occupied x) 0 d, get_or-set_other queues p q (drop 1 (queue_of queues p)) [] d) (k.bytes_are q b)
-
--- ---- the lists keep their lengths
-pub flat_kept : {frames heads counts heads' counts' : List ℕ} → Flat frames heads counts → length heads' ≡ length heads → length counts' ≡ length counts → Flat frames heads' counts'
-flat_kept k h c = record { frames_are = k.frames_are; heads_are = h ∙ k.heads_are; counts_are = c ∙ k.counts_are }
 
 -- ---- the end
 pub ended : {time : ℕ} {whole : Advance} {queues₀ : List (List Frame)} {list₀ : List ℕ} {qs : List (List Frame)} {s r : Sender} {m k : ℕ} {list : List ℕ} →

@@ -5,32 +5,27 @@ use Rattle.model.specs.Units.{last_tick, occupied, most_frames}
 use Rattle.model.specs.Machine.{Frame, Sender, Advance, queue_of, without_head, held as heldBytes, frames_held}
 use Rattle.model.specs.Fitness.{sender_fit}
 use Rattle.model.specs.Report.{listed}
-use Rattle.flat_queues.specs.View.{rings_of}
+use Rattle.flat_queues.specs.declared.Rings.{Rings}
+use Rattle.flat_queues.specs.View.{queues_in}
 
--- the lists of eight rings
-pub record Flat (frames heads counts : List ℕ) : Type 0 where
-  pub frames_are : length frames ≡ 3 * (8 * most_frames)
-  pub heads_are : length heads ≡ 8
-  pub counts_are : length counts ≡ 8
-
--- the held bytes of each queue, kept beside it
+-- the held bytes of each of eight queues, kept beside it
 pub record Holds (held : List ℕ) (queues : List (List Frame)) : Type 0 where
+  pub queues_eight : length queues ≡ 8
   pub eight : length held ≡ 8
   pub bytes_are : (p : ℕ) → p < 8 → get_or held p 0 ≡ heldBytes (queue_of queues p)
 
--- the head of ring i stands at a slot, and the list has room for its departure
-pub record Leaving (frames heads counts held : List ℕ) (i from : ℕ) (list : List ℕ) (k : ℕ) : Type 0 where
+-- the head of ring i stands at a slot, and a list of that length has room for its departure
+pub record Leaving (r : Rings) (i from len k : ℕ) : Type 0 where
   pub ring : i < 8
-  pub flat : Flat frames heads counts
-  pub eight : length held ≡ 8
-  pub slot : from + 3 ≤ length frames
-  pub waits : 0 < get_or counts i 0
-  pub room : k + 3 ≤ length list
+  pub slot : from + 3 ≤ 3 * (8 * most_frames)
+  pub waits : 0 < get_or r.counts i 0
+  pub room : k + 3 ≤ len
 
-pub record Departs (frames heads counts held : List ℕ) (i from end : ℕ) (list : List ℕ) (k : ℕ) (heads' counts' held' list' : List ℕ) : Type 0 where
-  pub rings_are : (l : List ℕ) → rings_of l heads' counts' ≡ without_head (rings_of l heads counts) i
-  pub held_is : held' ≡ set held i (get_or held i 0 - occupied (get_or frames (from + 1) 0))
-  pub list_is : list' ≡ take k list ++ (get_or frames from 0 ∷ get_or frames (from + 1) 0 ∷ end ∷ drop (k + 3) list)
+pub record Departs (r : Rings) (i from end : ℕ) (list : List ℕ) (k : ℕ) (r' : Rings) (list' : List ℕ) : Type 0 where
+  pub queues_are : queues_in r' ≡ without_head (queues_in r) i
+  pub held_is : r'.held ≡ set r.held i (get_or r.held i 0 - occupied (get_or r.frames (from + 1) 0))
+  pub marks_stay : r'.marks ≡ r.marks
+  pub list_is : list' ≡ take k list ++ (get_or r.frames from 0 ∷ get_or r.frames (from + 1) 0 ∷ end ∷ drop (k + 3) list)
 
 -- what an advance asks, of queues, sender and clock that are fit, and of a list of that length
 pub record Ready (queues : List (List Frame)) (s : Sender) (clock time len : ℕ) : Type 0 where

@@ -1,105 +1,84 @@
-// Internal to the product: the advance frame by frame, on queues that are rings in lent flat lists.
+// Internal to the product: the advance frame by frame, on queues that are rings in flat arrays.
 #![tactic(auto)]
 
-ghost use Rattle.std.specs.Prelude.{◌≡◌, List, ℕ, ◌≤◌, length};
+ghost use Rattle.std.specs.Prelude.{◌≡◌, ◌≤◌, length};
 ghost use Rattle.model.specs.Machine.{at, advance as advanceOf, highest_waiting, start_if_any};
 ghost use Rattle.port_scheduler.specs.View.{view_sender};
 ghost use Rattle.port_scheduler.specs.Sending.{Sends, Positive, GoesOn};
-ghost use Rattle.flat_queues.specs.View.{rings_of};
-ghost use Rattle.flat_scheduler.specs.Promised.{Flat, Holds, Leaving, Departs, Ready, Advanced};
+ghost use Rattle.flat_queues.specs.View.{queues_in, Eight};
+ghost use Rattle.flat_scheduler.specs.Promised.{Holds, Leaving, Departs, Ready, Advanced};
 
-use numbers::excess;
-use port_scheduler::Sender;
+use flat_queues::{Rings, slot};
+use port_scheduler::Sending;
 use units::occupancy;
 
 // What an advance leaves to send, and how many frames it freed.
 #[derive(Clone, Copy)]
 pub struct Moved {
-    pub sender: Sender,
+    pub sender: Option<Sending>,
     pub frames: u64,
 }
 
 // The oldest frame of the highest waiting priority starts at the tick, if one waits.
-fn start_if_any(counts: &[u64], tick: u64) -> Sender
-    requires { length counts.now ≡ 8 }
-    ensures { (frames heads : List ℕ) → view_sender result ≡ start_if_any tick (highest_waiting (rings_of frames heads counts.now)) }
+fn start_if_any(rings: &Rings, tick: u64) -> Option<Sending>
+    ensures { (view_sender result ≡ start_if_any tick (highest_waiting (queues_in rings.now))) × Eight rings.now }
 {
-    let mut i: usize = 0;
-    while i < 8 {
-        if 0 < counts[i] {
-            let p = i as u8;
-            return Sender::Sending(p, tick);
-        }
-        i += 1;
-    }
-    Sender::Idle
+    let highest = rings.counts.iter().position(|&n| 0 < n)?;
+    Some(Sending {
+        priority: highest as u8,
+        start: tick,
+    })
 }
 
 // Who sends from the tick on. Nobody starts at time itself, so that all arrivals at it compete.
-fn sender_from(counts: &[u64], sender: Sender, tick: u64, time: u64) -> Sender
-    requires { (length counts.now ≡ 8) × (tick ≤ time) }
-    ensures { (frames heads : List ℕ) → Positive (rings_of frames heads counts.now) → Sends (rings_of frames heads counts.now) (view_sender sender) tick → GoesOn (rings_of frames heads counts.now) (view_sender sender) tick time (view_sender result) }
+fn sender_from(rings: &Rings, sender: Option<Sending>, tick: u64, time: u64) -> Option<Sending>
+    requires { tick ≤ time }
+    ensures { Positive (queues_in rings.now) → Sends (queues_in rings.now) (view_sender sender) tick → GoesOn (queues_in rings.now) (view_sender sender) tick time (view_sender result) }
 {
-    let Sender::Idle = sender else {
+    if sender.is_some() || time <= tick {
         return sender;
-    };
-    if time <= tick {
-        return Sender::Idle;
     }
-    start_if_any(counts, tick)
+    start_if_any(rings, tick)
 }
 
-// The head of queue i, which stands at a slot, has left.
-fn depart(
-    frames: &[u64],
-    heads: &mut [u64],
-    counts: &mut [u64],
-    held: &mut [u64],
-    i: usize,
-    from: usize,
-    end: u64,
-    list: &mut [u64],
-    k: usize,
-)
-    requires { Leaving frames.now heads.old counts.old held.old i from list.old k }
-    ensures { Departs frames.now heads.old counts.old held.old i from end list.old k heads.new counts.new held.new list.new }
+// The head of ring i, which stands at a slot, has left; its departure goes to a place of the list.
+fn depart(rings: &mut Rings, i: usize, from: usize, end: u64, list: &mut [u64], k: usize)
+    requires { Leaving rings.old i from (length list.old) k }
+    ensures { Departs rings.old i from end list.old k rings.new list.new }
 {
-    let wire = frames[from + 1];
-    flat_queues::put(list, k, frames[from], wire, end);
-    held[i] = excess(held[i], occupancy(wire));
-    flat_queues::pop(heads, counts, i);
+    let wire = rings.frames[from + 1];
+    list[k..k + 3].copy_from_slice(&[rings.frames[from], wire, end]);
+    rings.held[i] = rings.held[i].saturating_sub(occupancy(wire));
+    rings.pop(i);
 }
 
-// Queues and sender from clock to time, frame by frame; the departures go to the list, three numbers each.
+// Rings and sender from clock to time, frame by frame; the departures go to the list, three numbers each.
 pub fn advance(
-    frames: &[u64],
-    heads: &mut [u64],
-    counts: &mut [u64],
-    held: &mut [u64],
-    mut sender: Sender,
+    rings: &mut Rings,
+    mut sender: Option<Sending>,
     clock: u64,
     time: u64,
     list: &mut [u64],
 ) -> Moved
-    requires { Flat frames.now heads.old counts.old × Ready (rings_of frames.now heads.old counts.old) (view_sender sender) clock time (length list.old) × Holds held.old (rings_of frames.now heads.old counts.old) }
-    ensures { Advanced (rings_of frames.now heads.old counts.old) (advanceOf time (at clock (rings_of frames.now heads.old counts.old) (view_sender sender))) (rings_of frames.now heads.new counts.new) (view_sender result.sender) result.frames list.old list.new × Holds held.new (rings_of frames.now heads.new counts.new) }
+    requires { Ready (queues_in rings.old) (view_sender sender) clock time (length list.old) × Holds rings.old.held (queues_in rings.old) }
+    ensures { Advanced (queues_in rings.old) (advanceOf time (at clock (queues_in rings.old) (view_sender sender))) (queues_in rings.new) (view_sender result.sender) result.frames list.old list.new × Holds rings.new.held (queues_in rings.new) × (rings.new.marks ≡ rings.old.marks) × Eight rings.old }
 {
     let mut tick = clock;
     let mut k: usize = 0;
     loop {
-        sender = sender_from(counts, sender, tick, time);
-        let Sender::Sending(p, start) = sender else {
+        sender = sender_from(rings, sender, tick, time);
+        let Some(sending) = sender else {
             break;
         };
-        let i = p as usize;
-        let from = flat_queues::slot(i, heads[i]);
-        let wire = frames[from + 1];
-        if time - start < wire {
+        let i = usize::from(sending.priority);
+        let from = slot(i, rings.heads[i]);
+        let wire = rings.frames[from + 1];
+        if time - sending.start < wire {
             break;
         }
-        let end = start + wire;
-        depart(frames, heads, counts, held, i, from, end, list, 3 * k);
-        sender = Sender::Idle;
+        let end = sending.start + wire;
+        depart(rings, i, from, end, list, 3 * k);
+        sender = None;
         tick = end;
         k += 1;
     }

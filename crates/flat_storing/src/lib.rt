@@ -1,42 +1,40 @@
-// Internal to the product: a frame that passed the police check, stored in a ring in lent flat lists or dropped.
+// Internal to the product: a frame that passed the police check, stored in a ring of flat arrays or dropped.
 #![tactic(auto)]
 
 ghost use Rattle.model.specs.Table.{Table};
 ghost use Rattle.model.specs.Port.{Port};
 ghost use Rattle.model.specs.Report.{arrived};
-ghost use Rattle.flat_queues.specs.View.{rings_of};
+ghost use Rattle.port_refusals.specs.Verdicts.{verdict_of};
+ghost use Rattle.flat_queues.specs.View.{queues_in};
 ghost use Rattle.flat_scheduler.specs.Promised.{Holds};
 ghost use Rattle.flat_storing.specs.Storing.{Roomy, Shown, Settles, Kept};
 
-use numbers::larger;
+use flat_queues::Rings;
+use port_refusals::Verdict;
 
-// Dropped (3), or stored (0).
+// Dropped, or stored.
 pub fn settle(
-    frames: &mut [u64],
-    heads: &[u64],
-    counts: &mut [u64],
-    held: &mut [u64],
-    marks: &mut [u64],
+    rings: &mut Rings,
     p: usize,
     size: u64,
     number: u64,
     length: u64,
     time: u64,
-) -> u32
-    requires { Roomy frames.old heads.now counts.old held.old marks.old p size length }
-    ensures { ((t : Table) (s : Port) → Shown t s p size (rings_of frames.old heads.now counts.old) marks.old → Settles t s p (arrived number length time) result (rings_of frames.new heads.now counts.new) marks.new) × Holds held.new (rings_of frames.new heads.now counts.new) × Kept frames.old heads.now counts.old held.old marks.old result frames.new counts.new held.new marks.new }
+) -> Verdict
+    requires { Roomy rings.old p size length }
+    ensures { ((t : Table) (s : Port) → Shown t s p size (queues_in rings.old) rings.old.marks → Settles t s p (arrived number length time) (verdict_of result) (queues_in rings.new) rings.new.marks) × Holds rings.new.held (queues_in rings.new) × Kept rings.old (verdict_of result) rings.new }
 {
-    let before = held[p];
+    let before = rings.held[p];
     let more = units::occupancy(length);
     if size < before {
-        return 3;
+        return Verdict::Dropped;
     }
     if size - before < more {
-        return 3;
+        return Verdict::Dropped;
     }
     let sum = before + more;
-    flat_queues::push(frames, heads, counts, p, number, length, time);
-    held[p] = sum;
-    marks[p] = larger(marks[p], sum);
-    0
+    rings.push(p, number, length, time);
+    rings.held[p] = sum;
+    rings.marks[p] = rings.marks[p].max(sum);
+    Verdict::Stored
 }

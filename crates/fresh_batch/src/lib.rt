@@ -8,47 +8,26 @@ ghost use Rattle.model.specs.Batch.{reports_in, numbers_in, batch};
 ghost use Rattle.table.specs.View.{view_table};
 ghost use Rattle.batch_bytes.specs.Promised.{BytesAnswers};
 
-use flat_port::State;
-use port_scheduler::Sender;
+use flat_port::{FlatPort, Lists, State};
+use flat_queues::Rings;
 use table::Table;
-use units::LIST_ROOM;
 
 pub fn run(t: Table, reports: &[u8], answers: &mut [u8], departures: &mut [u8])
     requires { (table_refusal (view_table t) ≡ 0) × (3 * (length reports.now / 40) ≤ length answers.old / 8) }
     ensures { BytesAnswers (batch (view_table t) (fresh (view_table t)) (reports_in (numbers_in reports.now)) (numbers_in departures.old)) answers.old answers.new departures.old departures.new }
 {
-    let mut words = [0u64; 2060];
-    flat_table::put_table(t, &mut words);
-    let mut credits = [0u64; 256];
-    let mut since = [0u64; 256];
-    flat_record::put_accounts(port_policing::full_accounts(t), &mut credits, &mut since);
-    let mut frames = [0u64; LIST_ROOM];
-    let mut heads = [0u64; 8];
-    let mut counts = [0u64; 8];
-    let mut held = [0u64; 8];
-    let mut marks = [0u64; 8];
-    let mut ticks = [0u64; 24];
-    let mut tallies = [0u64; 1281];
-    let start = State {
-        clock: 0,
-        sender: Sender::Idle,
-        frames: 0,
+    let mut port = FlatPort {
+        lists: Lists {
+            rings: Rings::empty(),
+            ticks: [0; 24],
+            accounts: port_policing::full_accounts(t),
+            tallies: [0; 1281],
+        },
+        state: State {
+            clock: 0,
+            sender: None,
+            frames: 0,
+        },
     };
-    batch_bytes::run(
-        &words,
-        &t.numbers,
-        &mut frames,
-        &mut heads,
-        &mut counts,
-        &mut held,
-        &mut marks,
-        &mut ticks,
-        &mut credits,
-        &mut since,
-        &mut tallies,
-        start,
-        reports,
-        answers,
-        departures,
-    );
+    let _ = batch_bytes::run(&mut port, &t, reports, answers, departures);
 }

@@ -5,30 +5,21 @@
 
 mod lines;
 
-use output::messages::{refuse, tell};
-use table::Table;
+use output::messages::{end, refuse, tell};
 
 // The program's name alone.
 const WORDS: usize = 1;
 
 fn main(rt: HostRuntime) {
     if input::arg_count(&rt) != WORDS {
-        tell(b"usage: handful", b"");
+        let _ = tell("usage: handful", b"");
         return;
     }
-    let given = table_input::read_table(&rt);
-    if given.is_table {
-        let t = given.table;
-        with_table(t);
-    }
-}
-
-fn with_table(t: Table) {
-    let core = overload_core::core_of(t);
-    if core.refused != 0 {
-        refuse(core.refused as u64);
+    let Some(t) = table_input::read_table(&rt) else {
         return;
-    }
-    let kept = core.table;
-    lines::print(kept);
+    };
+    let _ = match overload_core::core_of(t) {
+        Ok(kept) => end(lines::put(kept)),
+        Err(refusal) => refuse(refusal),
+    };
 }

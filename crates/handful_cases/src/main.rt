@@ -2,52 +2,44 @@
 // hands out and what is sold of each line. What it must print was computed by reference/, whose src/cases/handful.rs has the form of a case.
 #![tactic(auto)]
 
-use case_records::given::least;
-use case_records::rows::{number, say};
 use case_records::sums::of_table;
-use case_records::tables::{STDIN_FILENO, say_counts, say_links, take};
-use little_endian::read2;
+use case_records::tables;
+use little_endian::LittleEndian;
+use refusal::number_or_0;
+use std::io::{Read, Result};
 use table::Table;
 
 // The bytes before those of a table record.
 const HEAD: usize = 2;
 
-fn main() {
-    // Nothing says that the input ends, so the loop counts down, from a number that no run uses up.
-    let mut turns = u64::MAX;
-    while turns > 0 && next_case() {
-        turns -= 1;
-    }
+fn main(rt: HostRuntime) {
+    cases::run(|| next_case(&rt));
 }
 
-// Reads a case and prints its lines; false where the input ends.
-fn next_case() -> bool {
+// Reads a case and prints its lines; an error where the input ends.
+fn next_case(rt: &HostRuntime) -> Result<()> {
     let mut head = [0u8; HEAD];
-    if io::read_full(STDIN_FILENO, &mut head) < HEAD {
-        return false;
-    }
-    let t = take(read2(&head, 0));
+    rt.stdin().read_exact(&mut head)?;
+    let t = tables::read(rt, u16::read(&head, 0));
     let core = overload_core::core_of(t);
-    let kept = core.table;
-    say(b"handful");
-    number(core.refused as u64);
-    number(of_table(kept));
-    say_counts(kept);
-    say_links(kept);
-    say(b"sold");
-    say_sold(kept);
-    if table::check(t) == 0 {
-        say(b"given");
-        say_sold(t);
+    let kept = core.unwrap_or(table::blank());
+    print!(rt; "handful {} {}", number_or_0(core), of_table(kept))?;
+    tables::print_counts(rt, &kept)?;
+    tables::print_links(rt, &kept)?;
+    print!(rt; "sold")?;
+    print_sold(rt, kept)?;
+    if table::check(t).is_ok() {
+        print!(rt; "given")?;
+        print_sold(rt, t)?;
     }
-    true
+    Ok(())
 }
 
 // What is sold of each line, in the line that has begun.
-fn say_sold(t: Table) {
-    let n = least(t.lines as usize, 24);
+fn print_sold(rt: &HostRuntime, t: Table) -> Result<()> {
+    let n = t.lines.min(24) as u8;
     for line in 0..n {
-        number(overload_core::sold_on(t, line as u8));
+        print!(rt; " {}", overload_core::sold_on(t, line))?;
     }
-    say(b"\n");
+    println!(rt)
 }

@@ -1,15 +1,16 @@
 -- A numeral read digit by digit: what is read so far, and what ends the reading.
 use mathlib.Core.Path.{◌≡◌, refl}
-use mathlib.Core.Bool.{true, false, not, and-eq-true_iff, and-false}
+use mathlib.Core.Bool.{true, false, and-eq-true_iff, and-false}
 use mathlib.Core.List.{List, [], ◌∷◌, ◌++◌}
 use Prim.Native.Nat.{ℕ, zero, suc, ◌+◌, ◌-◌, ◌≤◌, ◌<◌}
 use native.Mathlib.Numerals.{add-one}
 use native.Mathlib.Omega.{arith}
-use lib.Dec.{leb, eqb, eqb-suc-zero}
+use lib.Dec.{leb}
+use Rattle.std.specs.Prelude.{Some, None}
 use lib.ListN.{length, get_or, take}
 use lib.Seq.{take-suc, take_all}
 use borrow.Author.Tests.{leb-true}
-use Rattle.input.specs.Numerals.{is_digit, are_digits, is_numeral_text, with_digit, number_behind, number_of, capped, no_numeral, read_numeral}
+use Rattle.input.specs.Numerals.{is_digit, are_digits, is_numeral_text, with_digit, number_behind, number_of, capped, read_numeral}
 
 pub from_zero : (byte : ℕ) → is_digit byte ≡ true → 48 ≤ byte
 from_zero byte h = leb-true 48 byte ((and-eq-true_iff (leb 48 byte) (leb byte 57)).0 h).0
@@ -61,19 +62,22 @@ another_byte [] i h d = absurd (omega arith)
 another_byte (b ∷ text) zero h d = rw d
 another_byte (b ∷ text) (suc i) h d = rw (another_byte text i (omega arith) d) (and-false (is_digit b))
 
-pub no_numeral_lem : (text : List ℕ) (i : ℕ) → i < length text → is_digit (get_or text i 0) ≡ false → no_numeral ≡ read_numeral text
+pub no_numeral_lem : (text : List ℕ) (i : ℕ) → i < length text → is_digit (get_or text i 0) ≡ false → None ≡ read_numeral text
 unfolding is_numeral_text
 no_numeral_lem [] i h d = refl
 no_numeral_lem (b ∷ text) i h d = rw (another_byte (b ∷ text) i h d)
 
-all_read : (text : List ℕ) (value : ℕ) → are_digits text ≡ true → value ≡ capped (number_of text)
-    → record { is_numeral = not (eqb (length text) 0); value = value } ≡ read_numeral text
-unfolding is_numeral_text number_behind
-all_read [] value h e = rw e
-all_read (b ∷ text) value h e = rw (eqb-suc-zero (length text), h, e)
+all_read : (text : List ℕ) → (length text ≡ 0 → ⊥) → are_digits text ≡ true → Some (capped (number_of text)) ≡ read_numeral text
+unfolding is_numeral_text
+all_read [] n h = absurd (n refl)
+all_read (b ∷ text) n h = rw h
 
-pub whole_read : (text : List ℕ) (i value : ℕ) → length text ≤ i → Read text i value
-    → record { is_numeral = not (eqb (length text) 0); value = value } ≡ read_numeral text
-whole_read text i value h r =
+pub whole_read : (text : List ℕ) (i value : ℕ) → length text ≤ i → (length text ≡ 0 → ⊥) → Read text i value → Some value ≡ read_numeral text
+whole_read text i value h n r =
     let whole : take i text ≡ text = take_all i text h in
-    all_read text value (rw whole at r.digits) (rw whole at r.number)
+    rw (rw whole at r.number) (all_read text n (rw whole at r.digits))
+
+pub empty_read : (text : List ℕ) → length text ≡ 0 → None ≡ read_numeral text
+unfolding is_numeral_text
+empty_read [] e = refl
+empty_read (b ∷ text) e = absurd (omega arith)

@@ -1,6 +1,5 @@
 -- Decimal numerals: a text of digits, at least one, the highest first.
-use Rattle.std.specs.Prelude.{Bool, true, false, cond, ◌&&◌, List, [], ◌∷◌, ℕ, ◌+◌, ◌-◌, ◌*◌, ◌^◌, min, leb}
-use Rattle.input.specs.declared.Numeral.{Numeral}
+use Rattle.std.specs.Prelude.{Bool, true, false, cond, ◌&&◌, List, [], ◌∷◌, ℕ, ◌+◌, ◌-◌, ◌*◌, ◌^◌, min, leb, Option, Some, None}
 
 -- the greatest number that a program takes
 abbrev pub greatest : ℕ
@@ -34,12 +33,6 @@ number_of text = number_behind 0 text
 abbrev pub capped : ℕ → ℕ
 capped n = min greatest n
 
-abbrev pub no_numeral : Numeral
-no_numeral = record { is_numeral = false; value = 0 }
-
-abbrev pub numeral : ℕ → Numeral
-numeral n = record { is_numeral = true; value = capped n }
-
--- the number of a text, or that it is no numeral
-abbrev pub read_numeral : List ℕ → Numeral
-read_numeral text = cond (is_numeral_text text) (numeral (number_of text)) no_numeral
+-- the number of a text, or none where the text is no numeral
+abbrev pub read_numeral : List ℕ → Option ℕ
+read_numeral text = cond (is_numeral_text text) (Some (capped (number_of text))) None

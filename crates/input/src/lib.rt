@@ -1,9 +1,9 @@
 // Internal to the product: what a program is given.
 #![tactic(auto)]
 
-ghost use Rattle.std.specs.Prelude.{◌≡◌, true, length};
+ghost use Rattle.std.specs.Prelude.{◌≡◌, ◌<◌, ◌≤◌, length, IfOk, IfErr};
 ghost use Rattle.io.specs.Counts.{IsPrefixLen};
-ghost use Rattle.input.specs.Numerals.{is_digit, with_digit, capped, read_numeral};
+ghost use Rattle.input.specs.Numerals.{read_numeral};
 
 use std::env::FillError;
 use std::fs::File;
@@ -13,80 +13,48 @@ use std::rt::{Env, Files};
 // The file that a program begins with and reads.
 pub const STDIN_FILENO: i32 = 0;
 
-#[derive(Clone, Copy)]
-pub struct Numeral {
-    pub is_numeral: bool,
-    pub value: u64,
-}
-
 // A decimal numeral; one above 2^64 - 1 counts as that.
-pub fn read_numeral(text: &[u8]) -> Numeral
+pub fn read_numeral(text: &[u8]) -> Option<u64>
     ensures { result ≡ read_numeral text.now }
 {
     let mut value: u64 = 0;
-    let mut i: usize = 0;
-    while i < text.len() {
-        let byte = text[i];
-        if !is_digit(byte) {
-            return Numeral {
-                is_numeral: false,
-                value: 0,
-            };
+    for &byte in text {
+        if !byte.is_ascii_digit() {
+            return None;
         }
-        value = with_digit(value, byte - b'0');
-        i += 1;
+        let digit = u64::from(byte - b'0');
+        value = value.saturating_mul(10).saturating_add(digit);
     }
-    Numeral {
-        is_numeral: text.len() != 0,
-        value,
-    }
+    if text.is_empty() { None } else { Some(value) }
 }
 
-fn is_digit(byte: u8) -> bool
-    ensures { result ≡ is_digit byte }
-{
-    b'0' <= byte && byte <= b'9'
-}
-
-fn with_digit(value: u64, digit: u8) -> u64
-    ensures { result ≡ capped (with_digit value digit) }
-{
-    let more = digit as u64;
-    if value > (u64::MAX - more) / 10 {
-        return u64::MAX;
-    }
-    10 * value + more
-}
-
-// The bytes at the start of a buffer that were read, and whether that is all: the buffer is full, or the input has ended.
-#[derive(Clone, Copy)]
-pub struct Given {
+// A read failed, and so many bytes were put at the start of the buffer before.
+#[derive(Clone, Copy, Debug, PartialEq, Eq)]
+pub struct CutShort {
     pub length: usize,
-    pub is_read: bool,
 }
 
-// Reads until the buffer is full or the input ends, from a file or from standard input.
-pub fn read<R: Read>(fd: &mut R, buf: &mut [u8]) -> Given
-    ensures prefix_len { IsPrefixLen result.length buf.new }
-    ensures is_read_value { result.length ≡ length buf.new → result.is_read ≡ true }
+// Reads until the buffer is full or the input ends, from a file or from standard input, and answers how many bytes were put at its
+// start.
+pub fn read<R: Read>(fd: &mut R, buf: &mut [u8]) -> Result<usize, CutShort>
+    ensures ok { IfOk result (λ n. IsPrefixLen n buf.new) }
+    ensures err { IfErr result (λ e. e.length < length buf.new) }
 {
     let n = read_full(fd, buf);
-    Given {
-        length: n,
-        is_read: n == buf.len() || has_ended(fd),
+    if n == buf.len() || has_ended(fd) {
+        return Ok(n);
     }
+    Err(CutShort { length: n })
 }
 
 // Reads until the buffer is full, the input ends or a read fails, and answers how many bytes were put at its start.
 fn read_full<R: Read>(fd: &mut R, buf: &mut [u8]) -> usize
     ensures { IsPrefixLen result buf.new }
 {
+    // (no `for` is plainer: it goes on by as many bytes as a read gave)
     let mut done = 0;
     while done < buf.len() {
-        let n = match fd.read(&mut buf[done..]) {
-            Ok(n) => n,
-            Err(_) => 0,
-        };
+        let n = fd.read(&mut buf[done..]).unwrap_or(0);
         if n == 0 {
             break;
         }
@@ -98,10 +66,7 @@ fn read_full<R: Read>(fd: &mut R, buf: &mut [u8]) -> usize
 // Whether nothing is left to read. A read that fails tells it from the end.
 fn has_ended<R: Read>(fd: &mut R) -> bool {
     let mut one = [0u8; 1];
-    match fd.read(&mut one) {
-        Ok(n) => n == 0,
-        Err(_) => false,
-    }
+    fd.read(&mut one).is_ok_and(|n| n == 0)
 }
 
 // How many words a program is given, its name among them.
@@ -123,23 +88,18 @@ fn is_arg<E: Env>(rt: &E, i: usize) -> bool {
     }
 }
 
-// Puts word i at the start of a buffer, and answers its length: 0 where it is missing or longer than the buffer.
-pub fn arg<E: Env>(rt: &E, i: usize, buf: &mut [u8]) -> usize
-    ensures { IsPrefixLen result buf.new }
+// Word i, put at the start of a buffer: empty where it is missing or longer than the buffer.
+pub fn arg<'a, E: Env>(rt: &E, i: usize, buf: &'a mut [u8]) -> &'a [u8]
+    ensures { length result.now ≤ length buf.old }
 {
     match rt.arg(i, buf) {
-        Ok(n) => n,
-        Err(_) => 0,
+        Ok(n) => &buf[..n],
+        Err(_) => &[],
     }
 }
 
 // Opens the file of that name for reading, if it can be opened and the name is text.
 pub fn open_read<F: Files>(rt: &F, name: &[u8]) -> Option<F::File> {
-    match str::from_utf8(name) {
-        Ok(path) => match File::open(rt, path) {
-            Ok(file) => Some(file),
-            Err(_) => None,
-        },
-        Err(_) => None,
-    }
+    let path = str::from_utf8(name).ok()?;
+    File::open(rt, path).ok()
 }

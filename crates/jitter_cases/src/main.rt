@@ -2,31 +2,24 @@
 // two numbers. What it must print was computed by reference/, whose src/cases/jitter.rs has the form of a case.
 #![tactic(auto)]
 
-use case_records::rows::{number, print, say};
-use case_records::tables::{STDIN_FILENO, take};
-use little_endian::{read2, read8};
+use case_records::tables;
+use little_endian::LittleEndian;
+use std::io::{Read, Result};
 
 // The bytes before those of a table record.
 const HEAD: usize = 10;
 
-fn main() {
-    // Nothing says that the input ends, so the loop counts down, from a number that no run uses up.
-    let mut turns = u64::MAX;
-    while turns > 0 && next_case() {
-        turns -= 1;
-    }
+fn main(rt: HostRuntime) {
+    cases::run(|| next_case(&rt));
 }
 
-// Reads a case and prints its line; false where the input ends.
-fn next_case() -> bool {
+// Reads a case and prints its line; an error where the input ends.
+fn next_case(rt: &HostRuntime) -> Result<()> {
     let mut head = [0u8; HEAD];
-    if io::read_full(STDIN_FILENO, &mut head) < HEAD {
-        return false;
+    rt.stdin().read_exact(&mut head)?;
+    let t = tables::read(rt, u16::read(&head, 8));
+    match jitter_margin::jitter_left(t, u64::read(&head, 0)) {
+        Ok(jitter) => println!(rt; "0 {jitter}"),
+        Err(refusal) => println!(rt; "{} 0", refusal.number()),
     }
-    let t = take(read2(&head, 8));
-    let left = jitter_margin::jitter_left(t, read8(&head, 0));
-    print(left.refused as u64);
-    number(left.jitter as u64);
-    say(b"\n");
-    true
 }

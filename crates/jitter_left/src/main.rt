@@ -5,7 +5,6 @@
 
 mod lines;
 
-use input::Numeral;
 use output::messages::tell;
 
 // The words without a number and with one, the program's name among them.
@@ -14,45 +13,26 @@ const WITHOUT_NUMBER: usize = 1;
 const WITH_NUMBER: usize = 2;
 
 fn main(rt: HostRuntime) {
-    let n = input::arg_count(&rt);
-    if n == WITHOUT_NUMBER {
-        with_asked(&rt, false, 0);
-    } else if n == WITH_NUMBER {
-        with_word(&rt);
-    } else {
-        tell_usage();
+    let asked = match input::arg_count(&rt) {
+        WITHOUT_NUMBER => Some(None),
+        WITH_NUMBER => input::read_numeral(input::arg(&rt, 1, &mut io::buffer())).map(Some),
+        _ => None,
+    };
+    match asked {
+        Some(number) => with_asked(&rt, number),
+        None => {
+            let _ = tell("usage: jitter_left [NUMBER]", b"");
+        }
     }
-}
-
-fn tell_usage() {
-    tell(b"usage: jitter_left [NUMBER]", b"");
-}
-
-fn with_word(rt: &HostRuntime) {
-    let v = word(rt, 1);
-    if v.is_numeral {
-        with_asked(rt, true, v.value);
-    } else {
-        tell_usage();
-    }
-}
-
-fn word(rt: &HostRuntime, i: usize) -> Numeral {
-    let mut text = io::buffer();
-    let n = input::arg(rt, i, &mut text);
-    input::read_numeral(&text[..n])
 }
 
 // The link of a number is asked for, or every link.
-fn with_asked(rt: &HostRuntime, is_one: bool, number: u64) {
-    let given = table_input::read_table(rt);
-    if !given.is_table {
+fn with_asked(rt: &HostRuntime, asked: Option<u64>) {
+    let Some(t) = table_input::read_table(rt) else {
         return;
-    }
-    let t = given.table;
-    if is_one {
-        lines::print_one(t, number);
-    } else {
-        lines::print_all(t);
+    };
+    match asked {
+        Some(number) => lines::print_one(t, number),
+        None => lines::print_all(t),
     }
 }

@@ -16,7 +16,7 @@ use Rattle.table.specs.declared.Table.{Table as TableRecord}
 use Rattle.table.specs.View.{view_link, blank_fields, paired, view_links, view_table}
 use Rattle.table.proofs.Shape.{Sized, count_shown}
 use Rattle.table.proofs.PassingRecord.{counts_pass, entry_is}
-use Rattle.table_lookup.proofs.Halving.{place_at}
+use Rattle.table_lookup.proofs.Finding.{place_at}
 use Rattle.table_lookup.proofs.Tables.{links_named, searchable}
 use Rattle.jitter_margin.specs.Fitting.{fields_with, record_with}
 
@@ -52,7 +52,7 @@ module _ (t : TableRecord) (s : Sized t) (e : table_refusal (view_table t) ≡ 0
   number_is = (links_named t e).number i l
 
   before : (j : ℕ) → j < i → (link_at (view_links t) j).number ≡ get_or t.numbers i 0 → ⊥
-  before j m x = omega (arith, (links_named t e).number j (omega arith), (searchable t e s.numbers).2 j i m l)
+  before j m x = omega (arith, (links_named t e).number j (omega arith), (searchable t e s.numbers).1 j i m l)
 
   pub place_is : place_of (get_or t.numbers i 0) (view_links t) ≡ some i
   place_is = place_at (get_or t.numbers i 0) (view_links t) i (omega (arith, count_shown t)) number_is before

@@ -1,10 +1,9 @@
 // The jitters that fit: those below the first that does not.
 ghost use Rattle.std.specs.Prelude.{◌≡◌, ◌<◌, get_or};
-ghost use Rattle.model.specs.Table.{table_refusal};
-ghost use Rattle.table.specs.View.{view_table};
 ghost use Rattle.jitter_margin.specs.Fitting.{record_with, Counted};
 
 use table::Table;
+use table::passing::Passing;
 use units::GREATEST_JITTER;
 
 // The jitters from 0 on.
@@ -20,15 +19,16 @@ fn with_jitter(t: Table, i: usize, jitter: u32) -> Table
 }
 
 // How many of the jitters 0 to 125,000 fit, by halving: all below low do, none from high on does.
-pub(crate) fn how_many(t: Table, i: usize) -> u32
-    requires { (table_refusal (view_table t) ≡ 0) × (i < t.count) }
-    ensures { Counted t (get_or t.numbers i 0) result }
+pub(crate) fn how_many(t: Passing, i: usize) -> u32
+    requires { i < t.table.count }
+    ensures { Counted t.table (get_or t.table.numbers i 0) result }
 {
     let mut low: u32 = 0;
     let mut high = JITTERS;
+    // No index is counted: each turn halves what is left, and no slice is searched, so that std's searches don't serve.
     while low < high {
         let half = low + (high - low) / 2;
-        let u = with_jitter(t, i, half);
+        let u = with_jitter(t.table, i, half);
         if bounds::sizes::suffice(u) {
             low = half + 1;
         } else {

@@ -1,82 +1,124 @@
-// Internal to the product: little-endian numbers in a run of bytes. What stands behind its end counts as 0; a place
-// that is behind it is answered first, so that no sum wraps.
+// Internal to the product: little-endian numbers in a run of bytes.
 #![tactic(auto)]
 
-pub mod within;
-
-ghost use Rattle.std.specs.Prelude.{◌≡◌, ◌+◌, ◌≤◌, length};
-ghost use Rattle.model.specs.TableFile.{to_bytes, number_at};
+ghost use Rattle.std.specs.Prelude.{◌≡◌, ℕ, ◌+◌, ◌≤◌, length};
+ghost use Rattle.model.specs.TableFile.{to_bytes, from_bytes, number_at};
 ghost use Rattle.little_endian.specs.Output.{laid};
 
-pub fn read1(s: &[u8], at: usize) -> u8
-    ensures { result ≡ number_at at 1 s.now }
+// A number of so many bytes, the lowest first.
+pub trait LittleEndian {
+    ghost width: { ℕ };
+
+    ghost value: { Self → ℕ };
+
+    // What stands behind the end counts as 0.
+    fn read(s: &[u8], at: usize) -> Self
+        ensures { value result ≡ number_at at width s.now };
+
+    // A number that stands wholly before the end: no place is tested, so that it is one load.
+    fn read_within(s: &[u8], at: usize) -> Self
+        requires { at + width ≤ length s.now }
+        ensures { value result ≡ number_at at width s.now };
+
+    fn write(self, s: &mut [u8], at: usize)
+        requires { at + width ≤ length s.old }
+        ensures { s.new ≡ laid at (to_bytes width (value self)) s.old };
+}
+
+fn bytes_at<const K: usize>(s: &[u8], at: usize) -> [u8; K]
+    ensures { from_bytes result ≡ number_at at K s.now }
 {
-    if at < s.len() {
-        return s[at];
+    let rest = &s[at.min(s.len())..];
+    if let Some(bytes) = rest.first_chunk::<K>() {
+        return *bytes;
     }
-    0
+    let mut bytes = [0u8; K];
+    bytes[..rest.len()].copy_from_slice(rest);
+    bytes
 }
 
-pub fn read2(s: &[u8], at: usize) -> u16
-    ensures { result ≡ number_at at 2 s.now }
+fn bytes_within<const K: usize>(s: &[u8], at: usize) -> [u8; K]
+    requires { at + K ≤ length s.now }
+    ensures { from_bytes result ≡ number_at at K s.now }
 {
-    if s.len() <= at {
-        return 0;
+    *s[at..].first_chunk::<K>().unwrap()
+}
+
+fn put_bytes<const K: usize>(s: &mut [u8], at: usize, bytes: [u8; K])
+    requires { at + K ≤ length s.old }
+    ensures { s.new ≡ laid at bytes.entry s.old }
+{
+    s[at..at + K].copy_from_slice(&bytes);
+}
+
+impl LittleEndian for u8 {
+    ghost width = { 1 };
+
+    ghost value = { λ x. x };
+
+    fn read(s: &[u8], at: usize) -> u8 {
+        u8::from_le_bytes(bytes_at(s, at))
     }
-    let low = read1(s, at) as u16;
-    let high = read1(s, at + 1) as u16;
-    low + 256 * high
-}
 
-pub fn read4(s: &[u8], at: usize) -> u32
-    ensures { result ≡ number_at at 4 s.now }
-{
-    if s.len() <= at {
-        return 0;
+    fn read_within(s: &[u8], at: usize) -> u8 {
+        u8::from_le_bytes(bytes_within(s, at))
     }
-    let low = read2(s, at) as u32;
-    let high = read2(s, at + 2) as u32;
-    low + 65536 * high
-}
 
-pub fn read8(s: &[u8], at: usize) -> u64
-    ensures { result ≡ number_at at 8 s.now }
-{
-    if s.len() <= at {
-        return 0;
+    fn write(self, s: &mut [u8], at: usize) {
+        put_bytes(s, at, u8::to_le_bytes(self));
     }
-    let low = read4(s, at) as u64;
-    let high = read4(s, at + 4) as u64;
-    low + 4294967296 * high
 }
 
-pub fn write1(s: &mut [u8], at: usize, x: u8)
-    requires { at + 1 ≤ length s.old }
-    ensures { s.new ≡ laid at (to_bytes 1 x) s.old }
-{
-    s[at] = x;
+impl LittleEndian for u16 {
+    ghost width = { 2 };
+
+    ghost value = { λ x. x };
+
+    fn read(s: &[u8], at: usize) -> u16 {
+        u16::from_le_bytes(bytes_at(s, at))
+    }
+
+    fn read_within(s: &[u8], at: usize) -> u16 {
+        u16::from_le_bytes(bytes_within(s, at))
+    }
+
+    fn write(self, s: &mut [u8], at: usize) {
+        put_bytes(s, at, u16::to_le_bytes(self));
+    }
 }
 
-pub fn write2(s: &mut [u8], at: usize, x: u16)
-    requires { at + 2 ≤ length s.old }
-    ensures { s.new ≡ laid at (to_bytes 2 x) s.old }
-{
-    write1(s, at, (x % 256) as u8);
-    write1(s, at + 1, (x / 256) as u8);
+impl LittleEndian for u32 {
+    ghost width = { 4 };
+
+    ghost value = { λ x. x };
+
+    fn read(s: &[u8], at: usize) -> u32 {
+        u32::from_le_bytes(bytes_at(s, at))
+    }
+
+    fn read_within(s: &[u8], at: usize) -> u32 {
+        u32::from_le_bytes(bytes_within(s, at))
+    }
+
+    fn write(self, s: &mut [u8], at: usize) {
+        put_bytes(s, at, u32::to_le_bytes(self));
+    }
 }
 
-pub fn write4(s: &mut [u8], at: usize, x: u32)
-    requires { at + 4 ≤ length s.old }
-    ensures { s.new ≡ laid at (to_bytes 4 x) s.old }
-{
-    write2(s, at, (x % 65536) as u16);
-    write2(s, at + 2, (x / 65536) as u16);
-}
+impl LittleEndian for u64 {
+    ghost width = { 8 };
 
-pub fn write8(s: &mut [u8], at: usize, x: u64)
-    requires { at + 8 ≤ length s.old }
-    ensures { s.new ≡ laid at (to_bytes 8 x) s.old }
-{
-    write4(s, at, (x % 4294967296) as u32);
-    write4(s, at + 4, (x / 4294967296) as u32);
+    ghost value = { λ x. x };
+
+    fn read(s: &[u8], at: usize) -> u64 {
+        u64::from_le_bytes(bytes_at(s, at))
+    }
+
+    fn read_within(s: &[u8], at: usize) -> u64 {
+        u64::from_le_bytes(bytes_within(s, at))
+    }
+
+    fn write(self, s: &mut [u8], at: usize) {
+        put_bytes(s, at, u64::to_le_bytes(self));
+    }
 }

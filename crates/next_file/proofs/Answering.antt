@@ -9,13 +9,9 @@ use Rattle.model.specs.Table.{Table}
 use Rattle.model.specs.TableFile.{Writing, read_table}
 use Rattle.model.specs.NextTable.{line_refusal, next_link, next_links, next_table, next_refusal, next, next_file_refusal, next_file_or, next_file}
 use Rattle.table.specs.View.{view_table, record_table}
-use Rattle.table_file.specs.declared.Reading.{Reading as ReadingRecord}
-use Rattle.table_file.specs.declared.Writing.{Writing as WritingRecord}
-use Rattle.table_file.specs.Answers.{record_reading}
-use Rattle.table_file.specs.Answers.{Wrote as WroteTable}
+use Rattle.table_file.specs.Answers.{Reading as ReadingRecord, Writing as WritingRecord, record_reading, Wrote as WroteTable}
 use Rattle.table_file.proofs.Back.{links_few, read_shown}
-use Rattle.tandem.specs.declared.Next.{Next as NextRecord}
-use Rattle.tandem.specs.Answer.{record_next}
+use Rattle.tandem.specs.Answer.{Next as NextRecord, record_next}
 use Rattle.tandem.proofs.Given.{next_refused, next_is, sized_shown}
 use Rattle.next_file.specs.Answer.{Wrote}
 use Rattle.next_file.proofs.Capping.{cap, write_same}

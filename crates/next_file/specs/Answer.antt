@@ -1,7 +1,7 @@
 -- What the file for the next port answers.
 use Rattle.std.specs.Prelude.{◌≡◌, List, ℕ}
 use Rattle.model.specs.TableFile.{Writing}
-use Rattle.table_file.specs.declared.Writing.{Writing as WritingRecord}
+use Rattle.table_file.specs.Answers.{Writing as WritingRecord}
 
 -- a size above what the checks allow, as one above it: no number is cut
 abbrev pub size_cap : ℕ

@@ -3,11 +3,9 @@
 // there is to know goes to standard error: a message, or `refused` alone.
 #![tactic(auto)]
 
-ghost use Rattle.std.specs.Prelude.{◌≤◌, length};
-
-use input::Numeral;
-use output::STDOUT_FILENO;
 use output::messages::{refuse, tell};
+use std::array;
+use std::io::Print;
 use table_input::{LONGEST, ROOM};
 
 // The words without sizes and with them, the program's name among them.
@@ -15,81 +13,57 @@ const WITHOUT_SIZES: usize = 3;
 
 const WITH_SIZES: usize = 11;
 
+// What is asked for: the line and the lines of the next switch, and its sizes.
+#[derive(Clone, Copy)]
+struct Asked {
+    line: u64,
+    lines: u64,
+    sizes: [u64; 8],
+}
+
 fn main(rt: HostRuntime) {
-    let n = input::arg_count(&rt);
-    if n == WITHOUT_SIZES {
-        with_words(&rt, WITHOUT_SIZES);
-    } else if n == WITH_SIZES {
-        with_words(&rt, WITH_SIZES);
-    } else {
-        tell_usage();
-    }
-}
-
-fn tell_usage() {
-    tell(b"usage: next_table LINE LINES [SIZES]", b"");
-}
-
-fn with_words(rt: &HostRuntime, n: usize)
-    requires { n ≤ 11 }
-{
-    let mut numbers = [0u64; WITH_SIZES];
-    if !are_read(rt, n, &mut numbers) {
-        tell_usage();
-        return;
-    }
-    let w = numbers;
-    let sizes = [w[3], w[4], w[5], w[6], w[7], w[8], w[9], w[10]];
-    with_numbers(rt, w[1], w[2], sizes);
-}
-
-// Reads the words behind the program's name, and says whether all are numerals.
-fn are_read(rt: &HostRuntime, n: usize, numbers: &mut [u64]) -> bool
-    requires { n ≤ length numbers.old }
-{
-    let mut i: usize = 1;
-    while i < n {
-        let v = word(rt, i);
-        if !v.is_numeral {
-            return false;
+    match words(&rt) {
+        Some(asked) => with_asked(&rt, asked),
+        None => {
+            let _ = tell("usage: next_table LINE LINES [SIZES]", b"");
         }
-        numbers[i] = v.value;
-        i += 1;
     }
-    true
 }
 
-fn word(rt: &HostRuntime, i: usize) -> Numeral {
-    let mut text = io::buffer();
-    let n = input::arg(rt, i, &mut text);
-    input::read_numeral(&text[..n])
+// The words behind the program's name, if they are as many numerals as there have to be.
+fn words(rt: &HostRuntime) -> Option<Asked> {
+    let n = input::arg_count(rt);
+    if n != WITHOUT_SIZES && n != WITH_SIZES {
+        return None;
+    }
+    let mut numbers = [0u64; WITH_SIZES];
+    for i in 1..n {
+        numbers[i] = input::read_numeral(input::arg(rt, i, &mut io::buffer()))?;
+    }
+    Some(Asked {
+        line: numbers[1],
+        lines: numbers[2],
+        sizes: array::from_fn(|p| numbers[3 + p]),
+    })
 }
 
-fn with_numbers(rt: &HostRuntime, line: u64, lines: u64, sizes: [u64; 8]) {
+fn with_asked(rt: &HostRuntime, asked: Asked) {
     let mut file = [0u8; ROOM];
-    let given = table_input::read_file(rt, &mut file);
-    if given.is_read {
-        let n = given.length;
-        put_next(&file[..n], line, lines, sizes);
+    if let Some(n) = table_input::read_file(rt, &mut file) {
+        put_next(rt, &file[..n], asked);
     }
 }
 
-fn put_next(file: &[u8], line: u64, lines: u64, sizes: [u64; 8]) {
-    let mut bytes = [0u8; LONGEST];
-    let next = next_file::next_file(file, line, lines, sizes, &mut bytes);
-    if next.refused != 0 {
-        refuse(next.refused as u64);
-        return;
+fn put_next(rt: &HostRuntime, file: &[u8], asked: Asked) {
+    let mut next = [0u8; LONGEST];
+    match next_file::next_file(file, asked.line, asked.lines, asked.sizes, &mut next) {
+        Ok(n) => {
+            if rt.write_all(&next[..n.min(LONGEST)]).is_err() {
+                let _ = tell("can't write", b"");
+            }
+        }
+        Err(refusal) => {
+            let _ = refuse(refusal);
+        }
     }
-    if !is_written(&bytes, next.written) {
-        tell(b"can't write", b"");
-    }
-}
-
-// The first n bytes, written.
-fn is_written(bytes: &[u8], n: usize) -> bool {
-    if n > bytes.len() {
-        return false;
-    }
-    io::write_all(STDOUT_FILENO, &bytes[0..n])
 }

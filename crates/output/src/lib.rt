@@ -1,105 +1,93 @@
-// Internal to the product: what a program prints is collected in a room that the caller lends, and written when the room is full.
+// Internal to the product: what a program prints is collected, and written when the room for it is full.
 #![tactic(auto)]
 
 pub mod messages;
 
-ghost use Rattle.std.specs.Prelude.{◌≡◌, true, false};
+ghost use Rattle.std.specs.Prelude.{◌≡◌, ◌≤◌, true, false, IsOk, ◌↔◌};
+
+use std::fmt;
+use std::fmt::Write;
 
 // The files that a program begins with and writes to.
 pub const STDOUT_FILENO: i32 = 1;
 
 pub const STDERR_FILENO: i32 = 2;
 
-pub const ROOM: usize = 8192;
+const ROOM: usize = 8192;
 
-// The file that is written to, how many bytes are collected, and whether a write has failed.
-#[derive(Clone, Copy)]
+// Writes to a file, by `write!` and the like. A write that failed stays known: no call behind it answers Ok.
+// (no heap, fixed memory: an array, and how many bytes of it are collected)
+#[derive(Drop)]
 pub struct Out {
-    pub fd: i32,
-    pub length: usize,
-    pub failed: bool,
+    fd: i32,
+    room: [u8; ROOM],
+    length: usize,
+    failed: bool,
+
+    ghost within: { length ≤ 8192 },
+}
+
+impl Write for Out {
+    ghost write_str_gives = { λ old bytes new. (old.failed ≡ false) × (new.failed ≡ false) };
+
+    fn write_str(&mut self, text: &str) -> fmt::Result {
+        self.bytes(text.as_bytes())
+    }
 }
 
 impl Out {
-    pub fn empty(fd: i32) -> Out
+    pub fn new(fd: i32) -> Out
         ensures { (result.fd ≡ fd) × (result.length ≡ 0) × (result.failed ≡ false) }
     {
         Out {
             fd,
+            room: [0; ROOM],
             length: 0,
             failed: false,
         }
     }
 
-    // A write that failed stays known: so it is of each step below.
-    fn put(self, room: &mut [u8; ROOM], byte: u8) -> Out
-        ensures { self.failed ≡ true → result.failed ≡ true }
+    // Bytes that need not be text.
+    pub fn bytes(&mut self, bytes: &[u8]) -> fmt::Result
+        ensures outcome { IsOk result ↔ (self.new.failed ≡ false) }
+        ensures known { self.old.failed ≡ true → self.new.failed ≡ true }
     {
-        let n = self.length;
-        if n < ROOM {
-            room[n] = byte;
-            return Out {
-                fd: self.fd,
-                length: n + 1,
-                failed: self.failed,
-            };
+        for &byte in bytes {
+            self.byte(byte)?;
         }
-        self
+        self.outcome()
     }
 
-    fn byte(self, room: &mut [u8; ROOM], byte: u8) -> Out
-        ensures { self.failed ≡ true → result.failed ≡ true }
+    fn byte(&mut self, byte: u8) -> fmt::Result
+        ensures outcome { IsOk result ↔ (self.new.failed ≡ false) }
+        ensures known { self.old.failed ≡ true → self.new.failed ≡ true }
     {
         if self.length >= ROOM {
-            let out = self.written(room);
-            return out.put(room, byte);
+            self.flush()?;
         }
-        self.put(room, byte)
-    }
-
-    pub fn text(self, room: &mut [u8; ROOM], text: &[u8]) -> Out
-        ensures { self.failed ≡ true → result.failed ≡ true }
-    {
-        let mut out = self;
-        let mut i: usize = 0;
-        while i < text.len() {
-            out = out.byte(room, text[i]);
-            i += 1;
-        }
-        out
-    }
-
-    pub fn number(self, room: &mut [u8; ROOM], n: u64) -> Out
-        ensures { self.failed ≡ true → result.failed ≡ true }
-    {
-        let mut digits = [0u8; 20];
-        let k = io::decimal(n, &mut digits);
-        self.text(room, &digits[..k])
+        let n = self.length;
+        self.room[n] = byte;
+        self.length = n + 1;
+        self.outcome()
     }
 
     // All that is collected, written.
-    pub fn written(self, room: &[u8; ROOM]) -> Out
-        ensures { (result.length ≡ 0) × (self.failed ≡ true → result.failed ≡ true) }
+    pub fn flush(&mut self) -> fmt::Result
+        ensures outcome { IsOk result ↔ (self.new.failed ≡ false) }
+        ensures known { self.old.failed ≡ true → self.new.failed ≡ true }
+        ensures empty { self.new.length ≡ 0 }
     {
-        if self.failed {
-            return Out {
-                fd: self.fd,
-                length: 0,
-                failed: true,
-            };
+        let n = self.length;
+        self.length = 0;
+        if !self.failed {
+            self.failed = !io::write_all(self.fd, &self.room[..n]);
         }
-        Out {
-            fd: self.fd,
-            length: 0,
-            failed: !is_written(self.fd, room, self.length),
-        }
+        self.outcome()
     }
-}
 
-fn is_written(fd: i32, room: &[u8], n: usize) -> bool {
-    if n > ROOM {
-        return false;
+    fn outcome(&self) -> fmt::Result
+        ensures { IsOk result ↔ (self.now.failed ≡ false) }
+    {
+        if self.failed { Err(fmt::Error) } else { Ok(()) }
     }
-    let k = io::count(n as isize, room);
-    io::write_all(fd, &room[..k])
 }

@@ -12,8 +12,7 @@ use Rattle.model.specs.OverloadCore.{with_links, lacks_bounds, core_links, core_
 use Rattle.model.proofs.Holds.{has_or_lacks}
 use Rattle.table.specs.declared.Table.{Table as TableRecord}
 use Rattle.table.specs.View.{view_table, record_table}
-use Rattle.overload_core.specs.declared.Core.{Core as CoreRecord}
-use Rattle.overload_core.specs.Answer.{record_core}
+use Rattle.overload_core.specs.Answer.{Core as CoreRecord, record_core}
 
 module _ (t : TableRecord) where
   pub table_refused : (n : ℕ) → n ≡ table_refusal (view_table t) → (n ≡ 0 → ⊥) → (r : CoreRecord) → r ≡ record { refused = n; table = record_table blank_table }

@@ -1,25 +1,20 @@
 // Whether a table has no bounds, by what its links may send together: neither lines nor priorities play a part in that.
 ghost use Rattle.std.specs.Prelude.{◌≡◌, ◌≤◌};
-ghost use Rattle.model.specs.Table.{table_refusal};
 ghost use Rattle.model.specs.OverloadCore.{lacks_bounds};
 ghost use Rattle.model.specs.Promises.{demand};
 ghost use Rattle.table.specs.View.{view_links, view_table};
 
-use numbers::{u16_as_u64, u16_as_usize};
 use table::Table;
+use table::passing::Passing;
 
 // The sum of L × N_v(w) over all links.
-fn demand_of(t: Table, w: u64) -> u64
-    requires { (table_refusal (view_table t) ≡ 0) × (w ≤ 65536) }
-    ensures { (result ≡ demand (view_links t) w) × (result ≤ 6299648) }
+fn demand_of(t: Passing, w: u64) -> u64
+    requires { w ≤ 65536 }
+    ensures { (result ≡ demand (view_links t.table) w) × (result ≤ 6299648) }
 {
-    let count = u16_as_usize(t.count);
     let mut sum: u64 = 0;
-    let mut i: usize = 0;
-    while i < count {
-        let l = t.links[i];
-        sum += u16_as_u64(l.greatest) * bounds_arrivals::frames(l, w);
-        i += 1;
+    for &l in t.links() {
+        sum += u64::from(l.greatest) * bounds_arrivals::frames(l, w);
     }
     sum
 }
@@ -28,12 +23,13 @@ fn demand_of(t: Table, w: u64) -> u64
 pub(crate) fn lacks(t: Table) -> bool
     ensures { result ≡ lacks_bounds (view_table t) }
 {
-    if table::check(t) != 0 {
+    let Ok(passing) = Passing::of(t) else {
         return false;
-    }
+    };
     let mut w: u64 = 1;
+    // No index is counted: the climb goes on from what was sent, and no `for` is plainer.
     while w <= 65536 {
-        let sent = demand_of(t, w - 1);
+        let sent = demand_of(passing, w - 1);
         if sent <= w {
             return false;
         }

@@ -22,7 +22,7 @@ pub(crate) fn pushed(kept: Table, number: u16, link: VirtualLink) -> Table
     requires { Recorded kept × (kept.count < 256) }
     ensures { result ≡ record_table (with_links (view_table kept) (view_links kept ++ (view_link number link ∷ []))) }
 {
-    let k = kept.count as usize;
+    let k = usize::from(kept.count);
     let mut r = kept;
     r.numbers[k] = number;
     r.links[k] = link;
@@ -35,18 +35,15 @@ pub(crate) fn joined(front: Table, k: u16, t: Table, from: u16) -> Table
     requires { (k ≤ front.count) × (k ≤ from) × (front.count ≤ 256) × (t.count ≤ 256) }
     ensures { view_table result ≡ with_links (view_table t) (take k (view_links front) ++ drop from (view_links t)) }
 {
-    let n = t.count as usize;
+    let n = usize::from(t.count);
     let sizes = t.sizes;
     let mut numbers = front.numbers;
     let mut links = front.links;
-    let mut many = k as usize;
-    let mut i = from as usize;
-    while i < n {
-        let link = t.links[i];
+    let mut many = usize::from(k);
+    for i in usize::from(from)..n {
         numbers[many] = t.numbers[i];
-        links[many] = link;
+        links[many] = t.links[i];
         many += 1;
-        i += 1;
     }
     Table {
         lines: t.lines,

@@ -2,29 +2,35 @@
 use mathlib.Core.Path.{◌≡◌, refl, sym, ap, ◌∙◌}
 use mathlib.Core.Bool.{true}
 use mathlib.Core.List.{List}
-use Prim.Native.Nat.{ℕ, zero, suc, ◌<◌}
+use Prim.Native.Nat.{ℕ, zero, suc}
 use native.Mathlib.Omega.{arith}
 use lib.ListN.{length, length-map}
+use Rattle.model.specs.Machine.{advance}
 use Rattle.model.specs.Table.{table_refusal}
 use Rattle.model.specs.Link.{place_of}
 use Rattle.model.specs.Counters.{counted}
 use Rattle.model.specs.Port.{with_counters}
 use Rattle.model.specs.Fitness.{fit}
-use Rattle.model.specs.Report.{wait, frame, tick_of, Judged, judge_report, counted_by, accepted_or, Stepped}
-use Rattle.model.proofs.Stepping.{Arrives, moved_to, verdict_few}
+use Rattle.model.specs.Report.{wait, frame, tick_of, Answer, bytes_freed, Judged, judge_report, counted_by, accepted_or, Stepped}
+use Rattle.model.proofs.Stepping.{Arrives, moved_to}
 use Rattle.model.proofs.Theorems.{fitness_kept}
 use Rattle.table.specs.View.{view_links, view_table}
 use Rattle.port_scheduler.specs.declared.Queue.{Queue}
 use Rattle.port_scheduler.proofs.Shown.{length_shown}
 use Rattle.port.specs.declared.Port.{Port as PortRecord}
+use Rattle.std.specs.Prelude.{Ok, Some}
+use Rattle.refusal.specs.Numbers.{number_or_0}
+use Rattle.port_refusals.specs.declared.Verdict.{Verdict}
+use Rattle.port_refusals.specs.Verdicts.{verdict_of}
+use Rattle.table.proofs.Shape.{Sized}
+use Rattle.port.specs.declared.Accepted.{Accepted as AcceptedRecord}
 use Rattle.port.specs.declared.Answer.{Answer as AnswerRecord}
-use Rattle.port.specs.declared.judging.Judged.{Judged as JudgedRecord}
 use Rattle.port.specs.View.{view_port_table, view_port}
 use Rattle.port.specs.Promised.{Answered}
 use Rattle.port.specs.Advancing.{Reached, Begun}
-use Rattle.port.specs.Judging.{Arrived, Judges}
+use Rattle.port.specs.Judging.{JudgedRecord, Arrived, Judges}
 use Rattle.port.specs.Counting.{Counts}
-use Rattle.port.proofs.Whole.{Whole}
+use Rattle.port.specs.Whole.{Whole}
 use Rattle.model.proofs.Accepted.{fit_port, arrives, waits_too}
 use Rattle.port.proofs.Moved.{NotRefused, accepts}
 use borrow.Author.Tests.{eqb-true}
@@ -33,26 +39,27 @@ use Rattle.model.proofs.Checks.{all_true}
 -- ---- a wait
 pub waits : (p : PortRecord) (time : ℕ) {before after : List ℕ} {a : AnswerRecord} → Begun p (wait time) before after a → Answered p (wait time) before after a
 unfolding tick_of
-waits p time {before} {after} {a} b = go a.refused refl
+waits p time {before} {after} {a} b = go (number_or_0 a.outcome) refl
   where
-    go : (n : ℕ) → a.refused ≡ n → Answered p (wait time) before after a
+    go : (n : ℕ) → number_or_0 a.outcome ≡ n → Answered p (wait time) before after a
     go zero e = (b.reached e).waited
     go (suc n) e = b.answered (λ z. omega arith)
 
 -- ---- a frame that is not refused
-module _ (p : PortRecord) (w : Whole p) (time line number len : ℕ) {before after : List ℕ} {a : AnswerRecord} (b : Begun p (frame time line number len) before after a) (z : a.refused ≡ 0) where
+module _ (p : PortRecord) (w : Whole p) (time line number len : ℕ) {before after : List ℕ} {freed : AcceptedRecord} {moved : PortRecord}
+    (b : Begun p (frame time line number len) before after (record { outcome = Ok freed; port = moved })) where
   ok : NotRefused p (frame time line number len) (length before)
-  ok = sym b.refused ∙ z
+  ok = sym b.refused
 
-  reached : Reached p time before after a
+  reached : Reached p time before after (record { outcome = Ok freed; port = moved })
   unfolding tick_of
-  reached = b.reached z
+  reached = b.reached refl
 
   wait_ok : NotRefused p (wait time) (length before)
   unfolding tick_of
   wait_ok = waits_too (view_port_table p) (view_port p) (length before) (frame time line number len) ok
 
-  table_is : a.port.table ≡ p.table
+  table_is : moved.table ≡ p.table
   table_is = reached.waited.table
 
   eight_queues : length (view_port p).scheduler.queues ≡ 8
@@ -64,35 +71,39 @@ module _ (p : PortRecord) (w : Whole p) (time line number len : ℕ) {before aft
   eight_marks = length-map p.queues (λ (q : Queue). q.mark) ∙ w.queues
 
   -- by the theorem that fitness is kept, of a wait
-  still_fit : fit (view_port_table a.port) (view_port a.port) ≡ true
+  still_fit : fit (view_port_table moved) (view_port moved) ≡ true
   still_fit =
       rw (reached.waited.port, table_is)
       (fitness_kept (view_port_table p) (view_port p) (record { report = wait time; list = before }) eight_queues eight_marks
       (fit_port (view_port_table p) (view_port p) (length before) (wait time) wait_ok)).0
 
-  pub arrived : Arrived a.port line len
+  pub arrived : Arrived moved line len
   unfolding view_table
   arrived =
       let k : Arrives (view_port_table p) (view_port p) time line len = arrives (view_port_table p) (view_port p) (length before) time line number len ok in
       record { fit_port = still_fit; line_in = rw table_is k.line_in; long = k.long; short = k.short }
 
   -- the model's port at the tick of the report
-  moved : view_port a.port ≡ moved_to (view_port p) time
+  moved_is : view_port moved ≡ moved_to (view_port p) time
   unfolding accepted_or judge_report counted_by tick_of
-  moved = reached.waited.port ∙ ap (λ (s : Stepped). s.port) (accepts p (wait time) before wait_ok)
+  moved_is = reached.waited.port ∙ ap (λ (s : Stepped). s.port) (accepts p (wait time) before wait_ok)
 
   abbrev verdict : Judged
   verdict = judge_report (view_port_table p) (moved_to (view_port p) time) (frame time line number len)
 
-  verdict_is : judge_report (view_port_table a.port) (view_port a.port) (frame a.port.clock line number len) ≡ verdict
-  verdict_is = rw (moved, table_is, reached.clock)
+  verdict_is : judge_report (view_port_table moved) (view_port moved) (frame moved.clock line number len) ≡ verdict
+  verdict_is = rw (moved_is, table_is, reached.clock)
+
+  pub still_whole : Whole moved
+  still_whole =
+      record { table = rw table_is w.table; queues = reached.queues; lines = rw reached.gate w.lines; accounts = rw reached.gate w.accounts; counts = rw reached.counts w.counts }
 
   -- what counting asks
-  pub counts_it : {j : JudgedRecord} → Judges a.port line number len j → (table_refusal (view_port_table j.port) ≡ 0) × (j.verdict < 4)
+  pub counts_it : {j : JudgedRecord} → Judges moved line number len j → Sized j.port.table × (table_refusal (view_port_table j.port) ≡ 0)
   unfolding fit
-  counts_it s = (rw s.table (eqb-true (table_refusal (view_port_table a.port)) 0 (all_true _ still_fit).0), rw s.verdict (verdict_few (view_port_table a.port) (view_port a.port) a.port.clock line number len))
+  counts_it s = (rw (s.table, table_is) w.table, rw s.table (eqb-true (table_refusal (view_port_table moved)) 0 (all_true _ still_fit).0))
 
-  counted_shown : {j : JudgedRecord} → Judges a.port line number len j →
+  counted_shown : {j : JudgedRecord} → Judges moved line number len j →
       with_counters (view_port j.port) (counted (place_of number (view_links j.port.table)) j.verdict (view_port j.port).counters)
       ≡ with_counters verdict.port (counted (place_of number (view_links p.table)) verdict.verdict verdict.port.counters)
   counted_shown {j} s =
@@ -101,19 +112,20 @@ module _ (p : PortRecord) (w : Whole p) (time line number len : ℕ) {before aft
       let t : j.port.table ≡ p.table = s.table ∙ table_is in
       rw (v, q, t)
 
-  pub frames : {j : JudgedRecord} → Judges a.port line number len j → {x : PortRecord} → Counts j.port number j.verdict x →
-      Answered p (frame time line number len) before after (record { refused = 0; verdict = j.verdict; frames = a.frames; bytes = a.bytes; port = x })
+  pub frames : (v : Verdict) {y x : PortRecord} → Judges moved line number len (record { verdict = verdict_of v; port = y }) → Counts y number (verdict_of v) x →
+      Answered p (frame time line number len) before after (record { outcome = Ok (record { verdict = Some v; frames = freed.frames; bytes = freed.bytes }); port = x })
   unfolding accepted_or tick_of judge_report counted_by view_table
-  frames {j} s {x} c =
+  frames v {y} {x} s c =
       let e = accepts p (frame time line number len) before ok in
-      let v = accepts p (wait time) before wait_ok in
+      let u = accepts p (wait time) before wait_ok in
+      let verdict_is_its : verdict_of v ≡ verdict.verdict = s.verdict ∙ ap (λ (x : Judged). x.verdict) verdict_is in
+      let frames_are : freed.frames ≡ length (advance time (view_port p).scheduler).departures = ap (λ (a : Answer). a.frames) (reached.waited.answer ∙ ap (λ (x : Stepped). x.answer) u) in
+      let bytes_are : freed.bytes ≡ bytes_freed (advance time (view_port p).scheduler).departures = ap (λ (a : Answer). a.bytes) (reached.waited.answer ∙ ap (λ (x : Stepped). x.answer) u) in
       record {
-        refused = ap (λ (x : Stepped). x.answer.refused) (sym e);
-        verdict = s.verdict ∙ ap (λ (x : Judged). x.verdict) verdict_is ∙ ap (λ (x : Stepped). x.answer.verdict) (sym e);
-        frames = reached.waited.frames ∙ ap (λ (x : Stepped). x.answer.frames) v ∙ ap (λ (x : Stepped). x.answer.frames) (sym e);
-        bytes = reached.waited.bytes ∙ ap (λ (x : Stepped). x.answer.bytes) v ∙ ap (λ (x : Stepped). x.answer.bytes) (sym e);
+        answer = rw (verdict_is_its, frames_are, bytes_are) (ap (λ (x : Stepped). x.answer) (sym e));
+        judged = refl;
         port = c.port ∙ counted_shown s ∙ ap (λ (x : Stepped). x.port) (sym e);
-        list = reached.waited.list ∙ ap (λ (x : Stepped). x.list) v ∙ ap (λ (x : Stepped). x.list) (sym e);
+        list = reached.waited.list ∙ ap (λ (x : Stepped). x.list) u ∙ ap (λ (x : Stepped). x.list) (sym e);
         same = λ refused. absurd (refused refl);
         table = c.table ∙ s.table ∙ table_is;
         lines_behind = rw c.gate ((rw table_is at s.lines_behind) ∙ reached.waited.lines_behind);

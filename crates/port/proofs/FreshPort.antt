@@ -4,17 +4,17 @@ use mathlib.Core.List.{List, [], ◌∷◌}
 use Prim.Native.Nat.{ℕ, zero, suc, ◌≤◌}
 use lib.ListN.{replicate}
 use Rattle.model.specs.Basics.{entries}
-use Rattle.model.specs.Table.{blank_table, table_refusal}
-use Rattle.model.specs.Port.{blank_account, fresh}
+use Rattle.model.specs.Table.{table_refusal}
+use Rattle.model.specs.Port.{fresh}
 use Rattle.table.specs.declared.Table.{Table as TableRecord}
-use Rattle.table.specs.View.{view_table, record_table}
-use Rattle.port_policing.specs.Check.{record_account}
+use Rattle.table.specs.View.{view_table}
 use Rattle.port_policing.specs.Full.{full_accounts}
-use Rattle.port_policing.proofs.Full.{none_yet, lines_at_rest, accounts_at_rest}
+use Rattle.port_policing.proofs.Full.{lines_at_rest, accounts_at_rest}
 use Rattle.model.specs.Machine.{Frame}
 use Rattle.port_scheduler.specs.View.{view_queue, view_queues, view_marks}
 use Rattle.port.specs.declared.Port.{Port as PortRecord}
-use Rattle.port.specs.View.{view_port, empty_queue, resting_port, fresh_port, blank_port}
+use Rattle.port.specs.View.{view_port, empty_queue, resting_port, fresh_port}
+use Rattle.std.specs.Prelude.{Some, None}
 use Rattle.port.specs.Promised.{fresh_or, record_fresh}
 use Rattle.port.specs.Resting.{resting_with}
 use Rattle.table.proofs.Shape.{count_shown}
@@ -22,16 +22,15 @@ use Rattle.counters.proofs.Rows.{rows_none}
 use Rattle.table.proofs.PassingRecord.{counts_pass}
 
 -- ---- what fresh gives
-pub fresh_refused : (t : TableRecord) {n : ℕ} {b : PortRecord} → n ≡ table_refusal (view_table t) → (n ≡ 0 → ⊥) → b ≡ resting_with (record_table blank_table) (replicate 256 (record_account blank_account)) →
-    record { refused = n; port = b } ≡ record_fresh t
-unfolding blank_port resting_port fresh_or
-fresh_refused t {n} {b} e z q = rw (← e) (go n z)
+pub fresh_refused : (t : TableRecord) {n : ℕ} → n ≡ table_refusal (view_table t) → (n ≡ 0 → ⊥) → record { refused = n; port = None } ≡ record_fresh t
+unfolding fresh_or
+fresh_refused t {n} e z = rw (← e) (go n z)
   where
-    go : (k : ℕ) → (k ≡ 0 → ⊥) → record { refused = k; port = b } ≡ fresh_or k t
+    go : (k : ℕ) → (k ≡ 0 → ⊥) → record { refused = k; port = None } ≡ fresh_or k t
     go zero x = absurd (x refl)
-    go (suc k) x = rw (q, none_yet)
+    go (suc k) x = refl
 
-pub fresh_given : (t : TableRecord) {b : PortRecord} → table_refusal (view_table t) ≡ 0 → b ≡ resting_with t (full_accounts t) → record { refused = 0; port = b } ≡ record_fresh t
+pub fresh_given : (t : TableRecord) {b : PortRecord} → table_refusal (view_table t) ≡ 0 → b ≡ resting_with t (full_accounts t) → record { refused = 0; port = Some b } ≡ record_fresh t
 unfolding fresh_or fresh_port resting_port
 fresh_given t e q = rw (e, q)
 

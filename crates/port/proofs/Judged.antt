@@ -20,7 +20,7 @@ use Rattle.model.proofs.Stepping.{placed}
 use Rattle.model.proofs.Lined.{lined_count}
 use Rattle.model.proofs.Fitness.{FitPort, fit_is}
 use Rattle.table.specs.View.{view_links, view_table}
-use Rattle.table_lookup.specs.declared.Place.TheVariants.{At, Nowhere}
+use Rattle.std.specs.Prelude.{Some, None}
 use Rattle.table.proofs.PassingRecord.{counts_pass}
 use Rattle.port_scheduler.specs.declared.Frame.{Frame as FrameRecord}
 use Rattle.port_scheduler.specs.View.{blank_queue, view_queue, view_queues}
@@ -28,10 +28,9 @@ use Rattle.port_scheduler.proofs.Shown.{queue_shown, queue_count}
 use Rattle.port_storing.specs.Storing.{Roomy}
 use Rattle.port_filter.specs.Filter.{Admits}
 use Rattle.port.specs.declared.Port.{Port as PortRecord}
-use Rattle.port.specs.declared.judging.Judged.{Judged as JudgedRecord}
 use Rattle.port.specs.View.{view_port_table, view_port}
-use Rattle.port.specs.Judging.{ticked, Arrived, LetThrough, Polices, Judges}
-use Rattle.port.proofs.Whole.{Whole}
+use Rattle.port.specs.Judging.{JudgedRecord, ticked, Arrived, LetThrough, Polices, Judges}
+use Rattle.port.specs.Whole.{Whole}
 use Rattle.model.proofs.Entries.{entries_set}
 
 -- a place that the filter gives is that of the number
@@ -85,13 +84,13 @@ module _ (p : PortRecord) (w : Whole p) (line len : ℕ) (k : Arrived p line len
     pub table_is : table_refusal (view_table x.table) ≡ 0
     table_is = rw e table_passes
 
-    pub is_filtered : Admits x.table line number len Nowhere → Judges p line number len (record { verdict = 1; port = x })
+    pub is_filtered : Admits x.table line number len None → Judges p line number len (record { verdict = 1; port = x })
     unfolding judge_report judge view_table
     is_filtered a =
         let nowhere : admitted (view_port_table p) line len (place_of number (view_links p.table)) ≡ none = sym (rw e at a.place) in
         rw (e, nowhere) (record { verdict = refl; port = ticked_shown; table = refl; lines_behind = drop-set-lt p.table.lines p.gate.line_ticks line p.clock k.line_in; accounts_behind = refl; counts = refl })
 
-    module _ (i : ℕ) (a : Admits x.table line number len (At i)) where
+    module _ (i : ℕ) (a : Admits x.table line number len (Some i)) where
       pub let_through : LetThrough x i len
       let_through = rw e (record { table = table_passes; place = rw e at (a.below i refl); short = k.short; roomy = roomy })
 

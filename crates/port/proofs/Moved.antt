@@ -13,6 +13,10 @@ use Rattle.port_scheduler.specs.declared.Moved.{Moved}
 use Rattle.port_scheduler.specs.View.{view_queues, view_marks, view_sender}
 use Rattle.port_scheduler.specs.Promised.{Ready, advance_from, Advanced}
 use Rattle.port_scheduler.proofs.Callers.{fit_ready}
+use Rattle.std.specs.Prelude.{None, Ok, Err}
+use Rattle.refusal.specs.declared.Refusal.{Refusal}
+use Rattle.refusal.specs.Numbers.{number_of}
+use Rattle.refusal.proofs.Numbers.{number_not_0}
 use Rattle.port.specs.declared.Port.{Port as PortRecord}
 use Rattle.port.specs.declared.Answer.{Answer as AnswerRecord}
 use Rattle.port.specs.View.{view_port_table, view_port}
@@ -33,10 +37,7 @@ accepts p r before ok = rw ok
 abbrev pub arrived_at : PortRecord → ℕ → Moved → AnswerRecord
 arrived_at p time m =
     record {
-      refused = 0;
-      verdict = 0;
-      frames = m.frames;
-      bytes = m.bytes;
+      outcome = Ok (record { verdict = None; frames = m.frames; bytes = m.bytes });
       port = record { table = p.table; clock = time; queues = m.queues; sender = m.sender; gate = p.gate; counts = p.counts; unknown = p.unknown };
     }
 
@@ -68,18 +69,16 @@ module _ (p : PortRecord) (time : ℕ) {before after : List ℕ} {m : Moved} (ok
       ap (λ (s : Scheduler). record { scheduler = s; marks = view_marks m.queues; gate = view_gate p.table p.gate; counters = (view_port p).counters }) there
       ∙ ap (λ (marks : List ℕ). record { scheduler = (advance time here).scheduler; marks = marks; gate = view_gate p.table p.gate; counters = (view_port p).counters }) moves.marks
 
-  pub reaches : Reached p time before after (arrived_at p time m)
+  pub reaches : length m.queues ≡ 8 → Reached p time before after (arrived_at p time m)
   unfolding accepted_or judge_report counted_by tick_of view_port
-  reaches =
+  reaches eight =
       let e = accepts p (wait time) before ok in
       record {
         accepted = refl;
         waited =
             record {
-              refused = ap (λ (s : Stepped). s.answer.refused) (sym e);
-              verdict = ap (λ (s : Stepped). s.answer.verdict) (sym e);
-              frames = moves.frames ∙ ap (λ (s : Stepped). s.answer.frames) (sym e);
-              bytes = moves.bytes ∙ ap (λ (s : Stepped). s.answer.bytes) (sym e);
+              answer = rw (moves.frames, moves.bytes) (ap (λ (s : Stepped). s.answer) (sym e));
+              judged = refl;
               port = moved ∙ ap (λ (s : Stepped). s.port) (sym e);
               list = moves.list ∙ ap (λ (s : Stepped). s.list) (sym e);
               same = λ refused. absurd (refused refl);
@@ -89,19 +88,22 @@ module _ (p : PortRecord) (time : ℕ) {before after : List ℕ} {m : Moved} (ok
               counts_behind = refl;
             };
         clock = refl;
+        queues = eight;
+        gate = refl;
+        counts = refl;
       }
 
 -- ---- any report
 module _ (p : PortRecord) (r : Report) where
-  refuses : {before : List ℕ} {n : ℕ} → n ≡ report_refusal (view_port_table p) (view_port p) r (length before) → (n ≡ 0 → ⊥) →
-      Answered p r before before (record { refused = n; verdict = 0; frames = 0; bytes = 0; port = p })
+  refuses : {before : List ℕ} (x : Refusal) → number_of x ≡ report_refusal (view_port_table p) (view_port p) r (length before) →
+      Answered p r before before (record { outcome = Err x; port = p })
   unfolding step accepted_or
-  refuses {before} {n} e z =
+  refuses {before} x e =
+      let n : ℕ = number_of x in
+      let z : (n ≡ 0 → ⊥) = number_not_0 x in
       record {
-        refused = rw (← e) (ap (λ (s : Stepped). s.answer.refused) (go n z));
-        verdict = rw (← e) (ap (λ (s : Stepped). s.answer.verdict) (go n z));
-        frames = rw (← e) (ap (λ (s : Stepped). s.answer.frames) (go n z));
-        bytes = rw (← e) (ap (λ (s : Stepped). s.answer.bytes) (go n z));
+        answer = rw (← e) (ap (λ (s : Stepped). s.answer) (go n z));
+        judged = tt;
         port = rw (← e) (ap (λ (s : Stepped). s.port) (go n z));
         list = rw (← e) (ap (λ (s : Stepped). s.list) (go n z));
         same = λ x. refl;
@@ -115,13 +117,13 @@ module _ (p : PortRecord) (r : Report) where
       go zero x = absurd (x refl)
       go (suc k) x = refl
 
-  pub begun_refused : {before : List ℕ} {n : ℕ} → n ≡ report_refusal (view_port_table p) (view_port p) r (length before) → (n ≡ 0 → ⊥) →
-      Begun p r before before (record { refused = n; verdict = 0; frames = 0; bytes = 0; port = p })
-  begun_refused e z = record { refused = e; answered = refuses e; reached = λ x. absurd (z x) }
+  pub begun_refused : {before : List ℕ} (x : Refusal) → number_of x ≡ report_refusal (view_port_table p) (view_port p) r (length before) →
+      Begun p r before before (record { outcome = Err x; port = p })
+  begun_refused x e = record { refused = e; answered = λ z. refuses x e; reached = λ z. absurd (number_not_0 x z) }
 
-  module _ (before : List ℕ) {n : ℕ} (e : n ≡ report_refusal (view_port_table p) (view_port p) r (length before)) (z : n ≡ 0) {time : ℕ} (at_tick : time ≡ tick_of r) where
+  module _ (before : List ℕ) (ok : 0 ≡ report_refusal (view_port_table p) (view_port p) r (length before)) {time : ℕ} (at_tick : time ≡ tick_of r) where
     pub wait_accepted : NotRefused p (wait time) (length before)
-    wait_accepted = rw at_tick (waits_too (view_port_table p) (view_port p) (length before) r (sym e ∙ z))
+    wait_accepted = rw at_tick (waits_too (view_port_table p) (view_port p) (length before) r (sym ok))
 
     pub begun_reached : {after : List ℕ} {a : AnswerRecord} → Reached p time before after a → Begun p r before after a
-    begun_reached k = record { refused = k.accepted ∙ sym z ∙ e; answered = λ x. absurd (x k.accepted); reached = λ x. rw (← at_tick) k }
+    begun_reached k = record { refused = k.accepted ∙ ok; answered = λ x. absurd (x k.accepted); reached = λ x. rw (← at_tick) k }

@@ -18,15 +18,14 @@ use Rattle.table.proofs.PassingRecord.{counts_pass, entry_is, entry_fits}
 use Rattle.port_policing.specs.Check.{view_account, record_account}
 use Rattle.port_scheduler.specs.declared.Frame.{Frame as FrameRecord}
 use Rattle.port_scheduler.specs.View.{blank_queue}
+use Rattle.port_refusals.specs.Verdicts.{verdict_of}
 use Rattle.port_storing.specs.declared.Settled.{Settled}
 use Rattle.port_storing.specs.Storing.{Roomy, Settles}
 use Rattle.port.specs.declared.Port.{Port as PortRecord}
-use Rattle.port.specs.declared.charging.Charged.{Charged}
-use Rattle.port.specs.declared.judging.Judged.{Judged as JudgedRecord}
 use Rattle.port.specs.View.{view_port_table, view_port}
-use Rattle.port.specs.Charging.{charge_by}
-use Rattle.port.specs.Judging.{link_of, LetThrough, Stores, Polices}
-use Rattle.port.proofs.Whole.{Whole}
+use Rattle.port.specs.Charging.{Charged, charge_by}
+use Rattle.port.specs.Judging.{JudgedRecord, link_of, LetThrough, Stores, Polices}
+use Rattle.port.specs.Whole.{Whole}
 use Rattle.model.proofs.Lists.{map-set}
 use Rattle.model.proofs.Entries.{entries_set}
 use Rattle.port.proofs.Stored.{with_queues, settled_verdict, settled_port}
@@ -52,7 +51,7 @@ module _ (p : PortRecord) (w : Whole p) (i len : ℕ) (k : LetThrough p i len) w
   roomy = k.roomy fields.priority priority_in it refl
 
   pub is_stored : {s : Settled} → Settles (get_or p.queues fields.priority blank_queue) (get_or p.table.sizes fields.priority 0) it s
-      → Stores p i len (record { verdict = s.verdict; port = with_queues p (set p.queues fields.priority s.queue) })
+      → Stores p i len (record { verdict = verdict_of s.verdict; port = with_queues p (set p.queues fields.priority s.queue) })
   unfolding store has_room view_table view_port
   is_stored settles =
       rw link_is

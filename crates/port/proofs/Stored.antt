@@ -15,6 +15,7 @@ use Rattle.port_scheduler.specs.declared.Frame.{Frame as FrameRecord}
 use Rattle.port_scheduler.specs.declared.Queue.{Queue}
 use Rattle.port_scheduler.specs.View.{view_frame, blank_queue, view_queue, view_queues, view_marks}
 use Rattle.port_scheduler.proofs.Shown.{queue_shown, queues_set, length_shown}
+use Rattle.port_refusals.specs.Verdicts.{verdict_of}
 use Rattle.port_storing.specs.declared.Settled.{Settled}
 use Rattle.port_storing.specs.Storing.{verdict_if, Kept, Settles}
 use Rattle.port.specs.declared.Port.{Port as PortRecord}
@@ -62,10 +63,10 @@ module _ (p : PortRecord) (k : ℕ) (eight : length p.queues ≡ 8) (below : k <
     abbrev room : Bool
     room = leb (held (queue_of (view_queues qs) k) + occupied f.length) size
 
-    verdict_is : s.verdict ≡ verdict_if room
+    verdict_is : verdict_of s.verdict ≡ verdict_if room
     verdict_is = settles.verdict ∙ rw queue_shown
 
-    pub settled_verdict : s.verdict ≡ (stored_if room (view_port p) k (view_frame f)).verdict
+    pub settled_verdict : verdict_of s.verdict ≡ (stored_if room (view_port p) k (view_frame f)).verdict
     settled_verdict = verdict_is ∙ verdict_same room
 
     pub settled_port : view_port (with_queues p (set qs k s.queue)) ≡ (stored_if room (view_port p) k (view_frame f)).port

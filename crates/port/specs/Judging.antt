@@ -11,7 +11,6 @@ use Rattle.port_scheduler.specs.declared.Frame.{Frame as FrameRecord}
 use Rattle.port_scheduler.specs.View.{blank_queue}
 use Rattle.port_storing.specs.Storing.{Roomy}
 use Rattle.port.specs.declared.Port.{Port as PortRecord}
-use Rattle.port.specs.declared.judging.Judged.{Judged as JudgedRecord}
 use Rattle.port.specs.View.{view_port_table, view_port}
 use Rattle.port.specs.Charging.{port_with}
 
@@ -35,6 +34,11 @@ pub record LetThrough (p : PortRecord) (i len : ℕ) : Type 0 where
 
 abbrev pub link_of : PortRecord → ℕ → VirtualLink
 link_of p i = link_at (view_links p.table) i
+
+-- a verdict by its number, and the port record after it
+pub record JudgedRecord : Type 0 where
+  pub verdict : ℕ
+  pub port : PortRecord
 
 -- verdict and port are the model's; the table stays, and so do what stands behind its counts, and the counts of frames
 pub record Gives (p : PortRecord) (j : Judged) (r : JudgedRecord) : Type 0 where

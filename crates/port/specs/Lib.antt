@@ -1,3 +1,4 @@
+pub mod Whole
 pub mod View
 pub mod Promised
 pub mod Charging

@@ -1,8 +1,7 @@
 -- The parts of a fresh record.
-use Rattle.std.specs.Prelude.{List, replicate}
+use Rattle.std.specs.Prelude.{None, List, replicate}
 use Rattle.table.specs.declared.Table.{Table as TableRecord}
 use Rattle.port_policing.specs.declared.Account.{Account as AccountRecord}
-use Rattle.port_scheduler.specs.declared.Sender.TheVariants.{Idle}
 use Rattle.port.specs.declared.Port.{Port as PortRecord}
 use Rattle.port.specs.View.{empty_queue}
 
@@ -13,7 +12,7 @@ resting_with t accounts =
       table = t;
       clock = 0;
       queues = replicate 8 empty_queue;
-      sender = Idle;
+      sender = None;
       gate = record { line_ticks = replicate 24 0; accounts = accounts };
       counts = replicate 1024 0;
       unknown = 0;

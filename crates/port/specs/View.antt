@@ -1,14 +1,13 @@
 -- The port record and the port of the model; the fresh record.
-use Rattle.std.specs.Prelude.{List, [], map, replicate}
+use Rattle.std.specs.Prelude.{None, List, map, replicate}
 use Rattle.model.specs.Basics.{entries}
 use Rattle.model.specs.Units.{most_frames}
-use Rattle.model.specs.Table.{Table, blank_table}
+use Rattle.model.specs.Table.{Table}
 use Rattle.model.specs.Port.{Account, Port, blank_account, full_account}
 use Rattle.table.specs.declared.Table.{Table as TableRecord}
-use Rattle.table.specs.View.{view_links, view_table, record_table}
+use Rattle.table.specs.View.{view_links, view_table}
 use Rattle.port_policing.specs.Check.{record_account}
 use Rattle.port_scheduler.specs.declared.Queue.{Queue}
-use Rattle.port_scheduler.specs.declared.Sender.TheVariants.{Idle}
 use Rattle.port_scheduler.specs.View.{blank_entry}
 use Rattle.port_record_fitness.specs.View.{view_parts}
 use Rattle.port.specs.declared.Port.{Port as PortRecord}
@@ -31,7 +30,7 @@ resting_port t accounts =
       table = t;
       clock = 0;
       queues = replicate 8 empty_queue;
-      sender = Idle;
+      sender = None;
       gate = record { line_ticks = replicate 24 0; accounts = entries (record_account blank_account) 256 (map record_account accounts) };
       counts = replicate 1024 0;
       unknown = 0;
@@ -39,7 +38,3 @@ resting_port t accounts =
 
 unfoldable pub fresh_port : TableRecord → PortRecord
 fresh_port t = resting_port t (map full_account (view_links t))
-
--- "no .. fresh port": its table meets 3, so it is refused with 10
-unfoldable pub blank_port : PortRecord
-blank_port = resting_port (record_table blank_table) []

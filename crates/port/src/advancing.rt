@@ -1,56 +1,37 @@
 // A report up to its verdict: refused, or the port advanced to its tick.
-ghost use Rattle.std.specs.Prelude.{◌≡◌, length};
+ghost use Rattle.std.specs.Prelude.{◌≡◌, Ok, length};
 ghost use Rattle.model.specs.Report.{wait, report_refusal};
 ghost use Rattle.port_refusals.specs.Reports.{view_report};
+ghost use Rattle.port.specs.Whole.{Whole};
 ghost use Rattle.port.specs.View.{view_port_table, view_port};
 ghost use Rattle.port.specs.Advancing.{Reached, Begun};
 
-use crate::{Answer, Port, refusals};
+use crate::{Accepted, Port, refusals};
 use port_refusals::Report;
+use refusal::Refusal;
 
-// The port at a tick, and what was freed until then. Fitness is not tested here.
-fn advanced(p: Port, time: u64, list: &mut [u64]) -> Answer
-    requires { report_refusal (view_port_table p) (view_port p) (wait time) (length list.old) ≡ 0 }
-    ensures { Reached p time list.old list.new result }
+// To a tick; and what was freed until then. Fitness is not tested here.
+fn move_to(p: &mut Port, time: u64, list: &mut [u64]) -> Accepted
+    requires { report_refusal (view_port_table p.old) (view_port p.old) (wait time) (length list.old) ≡ 0 }
+    ensures { Reached p.old time list.old list.new (record { outcome = Ok result; port = p.new }) }
 {
-    let waiting = p.queues;
-    let sending = p.sender;
-    let moved = port_scheduler::advance(waiting, sending, p.clock, time, list);
-    let table = p.table;
+    let moved = port_scheduler::advance(p.queues, p.sender, p.clock, time, list);
+    p.clock = time;
     let queues = moved.queues;
-    let sender = moved.sender;
-    let gate = p.gate;
-    let counts = p.counts;
-    Answer {
-        refused: 0,
-        verdict: 0,
+    p.queues = queues;
+    p.sender = moved.sender;
+    Accepted {
+        verdict: None,
         frames: moved.frames,
         bytes: moved.bytes,
-        port: Port {
-            table,
-            clock: time,
-            queues,
-            sender,
-            gate,
-            counts,
-            unknown: p.unknown,
-        },
     }
 }
 
 // A report to any record: refused, with the record as it came and nothing written; or advanced to its tick.
-pub(crate) fn advance(p: Port, r: Report, list: &mut [u64]) -> Answer
-    ensures { Begun p (view_report r) list.old list.new result }
+pub(crate) fn advance(p: &mut Port, r: Report, list: &mut [u64]) -> Result<Accepted, Refusal>
+    requires { Whole p.old }
+    ensures { Begun p.old (view_report r) list.old list.new (record { outcome = result; port = p.new }) }
 {
-    let refused = refusals::refusal(p, r, list.len());
-    if refused != 0 {
-        return Answer {
-            refused,
-            verdict: 0,
-            frames: 0,
-            bytes: 0,
-            port: p,
-        };
-    }
-    advanced(p, port_refusals::tick_of(r), list)
+    refusals::check(p, r, list.len())?;
+    Ok(move_to(p, port_refusals::tick_of(r), list))
 }

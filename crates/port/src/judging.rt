@@ -1,75 +1,55 @@
-// The verdict of a frame that has wholly arrived at the port's clock: filtered (1), policed (2), dropped (3) or stored (0).
+// The verdict of a frame that has wholly arrived at the port's clock.
 ghost use Rattle.std.specs.Prelude.{◌≡◌, ◌<◌};
+ghost use Rattle.port_refusals.specs.Verdicts.{verdict_of};
+ghost use Rattle.port.specs.Whole.{Whole};
 ghost use Rattle.port.specs.Judging.{ticked as tickedPort, Arrived, LetThrough, Stores, Polices, Judges};
 
 use crate::{Port, charging};
-use numbers::u32_as_u64;
-use table_lookup::Place;
-
-// The verdict, and the port after it.
-#[derive(Clone, Copy)]
-pub(crate) struct Judged {
-    pub verdict: u32,
-    pub port: Port,
-}
+use port_refusals::Verdict;
 
 // The line's tick is the port's clock.
-fn ticked(mut p: Port, line: u64) -> Port
+fn tick_line(p: &mut Port, line: u64)
     requires { line < 24 }
-    ensures { result ≡ tickedPort p line }
+    ensures { p.new ≡ tickedPort p.old line }
 {
-    let mut gate = p.gate;
-    gate.line_ticks[line as usize] = p.clock;
-    p.gate = gate;
-    p
+    p.gate.line_ticks[line as usize] = p.clock;
 }
 
 // A frame of the link at a place, which passed the police check: dropped, or stored.
-fn store(mut p: Port, i: usize, length: u64) -> Judged
-    requires { LetThrough p i «length» }
-    ensures { Stores p i «length» result }
+fn store(p: &mut Port, i: usize, length: u64) -> Verdict
+    requires { Whole p.old × LetThrough p.old i «length» }
+    ensures { Stores p.old i «length» (record { verdict = verdict_of result; port = p.new }) }
 {
-    let t = p.table;
-    let link = t.links[i];
-    let f = port_storing::arrived(t.numbers[i], length as u16, p.clock);
-    let k = link.priority as usize;
-    let s = port_storing::settle(p.queues[k], t.sizes[k], f);
-    let kept = s.queue;
-    p.queues[k] = kept;
-    Judged {
-        verdict: s.verdict,
-        port: p,
-    }
+    let link = p.table.links[i];
+    let f = port_storing::arrived(p.table.numbers[i], length as u16, p.clock);
+    let k = usize::from(link.priority);
+    let s = port_storing::settle(p.queues[k], p.table.sizes[k], f);
+    p.queues[k] = s.queue;
+    s.verdict
 }
 
 // A frame of the link at a place, which the filter lets through. It is stored in the very port in which it was charged.
-fn police(p: Port, i: usize, length: u64) -> Judged
-    requires { LetThrough p i «length» }
-    ensures { Polices p i «length» result }
+fn police(p: &mut Port, i: usize, length: u64) -> Verdict
+    requires { Whole p.old × LetThrough p.old i «length» }
+    ensures { Polices p.old i «length» (record { verdict = verdict_of result; port = p.new }) }
 {
-    let t = p.table;
-    let link = t.links[i];
-    let jitter = u32_as_u64(link.jitter);
-    let c = charging::charge_in(p, i, table::bag(link.code), jitter, p.clock);
-    let charged = c.port;
-    if !c.passed {
-        return Judged {
-            verdict: 2,
-            port: charged,
-        };
+    let link = p.table.links[i];
+    let jitter = u64::from(link.jitter);
+    let passed = charging::charge_in(p, i, table::bag(link.code), jitter, p.clock);
+    if !passed {
+        return Verdict::Policed;
     }
-    store(charged, i, length)
+    store(p, i, length)
 }
 
 // First the line's tick, then the filter, then the police check.
-pub(crate) fn judge(p: Port, line: u64, number: u64, length: u64) -> Judged
-    requires { Arrived p line «length» }
-    ensures { Judges p line number «length» result }
+pub(crate) fn judge(p: &mut Port, line: u64, number: u64, length: u64) -> Verdict
+    requires { Whole p.old × Arrived p.old line «length» }
+    ensures { Judges p.old line number «length» (record { verdict = verdict_of result; port = p.new }) }
 {
-    let port = ticked(p, line);
-    let t = port.table;
-    let Place::At(i) = port_filter::admitted(t, line, number, length) else {
-        return Judged { verdict: 1, port };
+    tick_line(p, line);
+    let Some(i) = port_filter::admitted(p.table, line, number, length) else {
+        return Verdict::Filtered;
     };
-    police(port, i, length)
+    police(p, i, length)
 }

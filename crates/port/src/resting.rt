@@ -1,11 +1,12 @@
-// The fresh port of a table, and the blank one that stands for none.
+// The fresh port of a table.
 ghost use Rattle.std.specs.Prelude.{◌≡◌};
-ghost use Rattle.port.specs.Promised.{record_fresh};
+ghost use Rattle.port.specs.Promised.{view_fresh, record_fresh};
 ghost use Rattle.port.specs.Resting.{resting_with};
 
-use crate::{Fresh, Port};
+use crate::Port;
 use port_policing::{Account, Gate};
-use port_scheduler::{Frame, Queue, Sender};
+use port_scheduler::{Frame, Queue};
+use refusal::Refusal;
 use table::Table;
 use units::MOST_FRAMES;
 
@@ -27,7 +28,7 @@ fn resting_with(table: Table, accounts: [Account; 256]) -> Port
         table,
         clock: 0,
         queues: [queue; 8],
-        sender: Sender::Idle,
+        sender: None,
         gate: Gate {
             line_ticks: [0u64; 24],
             accounts,
@@ -38,19 +39,9 @@ fn resting_with(table: Table, accounts: [Account; 256]) -> Port
 }
 
 // 3 to 6 or 23; else the fresh port.
-pub(crate) fn fresh(table: Table) -> Fresh
-    ensures { result ≡ record_fresh table }
+pub(crate) fn fresh(table: Table) -> Result<Port, Refusal>
+    ensures { view_fresh result ≡ record_fresh table }
 {
-    let refused = table::check(table);
-    if refused != 0 {
-        let blank = Account { credit: 0, tick: 0 };
-        return Fresh {
-            refused,
-            port: resting_with(table::blank(), [blank; 256]),
-        };
-    }
-    Fresh {
-        refused: 0,
-        port: resting_with(table, port_policing::full_accounts(table)),
-    }
+    table::check(table)?;
+    Ok(resting_with(table, port_policing::full_accounts(table)))
 }

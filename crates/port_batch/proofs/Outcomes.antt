@@ -1,15 +1,19 @@
 -- What the call comes to: refused, each report refused with 10, or answered.
+use Rattle.std.specs.Prelude.{Option, Some, None, Ok, Err}
+use Rattle.std.specs.Bool.{then_some}
 use mathlib.Core.Path.{◌≡◌, refl, sym, ◌∙◌}
-use mathlib.Core.Bool.{true, false}
 use mathlib.Core.List.{List}
 use Prim.Native.Nat.{ℕ, zero, suc, ◌*◌, ◌/◌, ◌≤◌}
 use lib.ListN.{length}
 use Rattle.model.specs.Batch.{reports_in, batch_refusal, batch_or, answer_batch, over}
-use Rattle.port_queue_fitness.specs.declared.Fitness.{Fitness}
-use Rattle.port_record_fitness.specs.Fitness.{port_fitness}
+use Rattle.model.specs.Machine.{frames_held}
+use Rattle.model.specs.Fitness.{fit}
+use Rattle.refusal.specs.declared.Refusal.{Refusal}
+use Rattle.refusal.specs.Numbers.{number_of}
+use Rattle.refusal.proofs.Numbers.{number_not_0}
 use Rattle.port.specs.declared.Port.{Port as PortRecord}
 use Rattle.port.specs.View.{view_port_table, view_port}
-use Rattle.port.proofs.Refused.{fits_is, frames_are}
+use Rattle.port.proofs.Refused.{none_fails, some_passes}
 use Rattle.port_batch.specs.declared.Batched.{Batched as BatchedRecord}
 use Rattle.port_batch.specs.Promised.{outcome_from, Batches, Fit, Answered, unfit}
 use Rattle.port_batch.proofs.Refusing.{has_room, untouched, unfit_batch, report_count}
@@ -21,11 +25,11 @@ module _ (p : PortRecord) (reports answers list : List ℕ) {n : ℕ} (e : n ≡
   refused_outcome zero z = absurd (z refl)
   refused_outcome (suc m) z = refl
 
-  pub call_refused : (n ≡ 0 → ⊥) → Batches p reports answers answers list list (record { refused = n; departures = 0; port = p })
+  pub call_refused : (r : Refusal) → n ≡ number_of r → Batches p reports answers answers list list (record { outcome = Err r; port = p })
   unfolding answer_batch
-  call_refused z =
+  call_refused r q =
       record {
-        gives = rw (← e, refused_outcome n z) (record { refused = refl; departures = refl; port = refl; answers_are = refl; list_is = refl; table = refl; lines_behind = refl; accounts_behind = refl; counts_behind = refl });
+        gives = rw (← e, q, refused_outcome (number_of r) (number_not_0 r)) (record { refused = refl; departures = refl; port = refl; answers_are = refl; list_is = refl; table = refl; lines_behind = refl; accounts_behind = refl; counts_behind = refl });
         same = λ x. refl;
         same_port = λ x. refl;
       }
@@ -45,29 +49,32 @@ module _ (p : PortRecord) (reports answers list : List ℕ) {n : ℕ} (e : n ≡
     unfolding batch_or
     call_answered k = record { gives = rw outcome_is k.gives; same = λ x. absurd (x k.gives.refused); same_port = k.same_port }
 
-    module _ {x : Fitness} (tested : x ≡ port_fitness p.table p.clock p.queues p.sender p.gate p.counts p.unknown) where
-      pub fits : x.fits ≡ true → Fit p x.frames
-      fits good = record { fits = sym (fits_is p tested) ∙ good; frames_are = frames_are p tested good }
+    abbrev tested : Option ℕ
+    tested = then_some (fit (view_port_table p) (view_port p)) (frames_held (view_port p).scheduler.queues)
 
-      pub call_unfit : x.fits ≡ false → {answers' : List ℕ} → answers' ≡ over (unfit (length reports / 5)) answers → Batches p reports answers answers' list list (record { refused = 0; departures = 0; port = p })
-      unfolding batch_or
-      call_unfit bad {answers'} q =
-          let b = unfit_batch (view_port_table p) (view_port p) (sym (fits_is p tested) ∙ bad) (reports_in reports) list in
-          let u = untouched (view_port_table p) (view_port p) (reports_in reports) list b.refused in
-          record {
-            gives =
-                rw outcome_is
-                (record {
-                  refused = refl;
-                  departures = sym u.freed;
-                  port = sym u.port;
-                  answers_are = rw (b.answers, report_count reports) q;
-                  list_is = rw u.written;
-                  table = refl;
-                  lines_behind = refl;
-                  accounts_behind = refl;
-                  counts_behind = refl;
-                });
-            same = λ y. absurd (y refl);
-            same_port = λ y. refl;
-          }
+    pub fits : {n : ℕ} → Some n ≡ tested → Fit p n
+    unfolding view_port
+    fits x = let y = some_passes _ _ _ x in record { fits = y.0; frames_are = y.1 }
+
+    pub call_unfit : None ≡ tested → {answers' : List ℕ} → answers' ≡ over (unfit (length reports / 5)) answers → Batches p reports answers answers' list list (record { outcome = Ok 0; port = p })
+    unfolding batch_or
+    call_unfit bad {answers'} q =
+        let b = unfit_batch (view_port_table p) (view_port p) (none_fails _ _ bad) (reports_in reports) list in
+        let u = untouched (view_port_table p) (view_port p) (reports_in reports) list b.refused in
+        record {
+          gives =
+              rw outcome_is
+              (record {
+                refused = refl;
+                departures = sym u.freed;
+                port = sym u.port;
+                answers_are = rw (b.answers, report_count reports) q;
+                list_is = rw u.written;
+                table = refl;
+                lines_behind = refl;
+                accounts_behind = refl;
+                counts_behind = refl;
+              });
+          same = λ y. absurd (y refl);
+          same_port = λ y. refl;
+        }

@@ -1,11 +1,12 @@
 -- The refusals of a batch; and a batch each of whose reports is refused.
+use borrow.Rule.Slice.PartMut.{put_mid}
 use mathlib.Core.Path.{◌≡◌, refl, sym, ap, ◌∙◌}
 use mathlib.Core.Bool.{true, false, not}
 use mathlib.Core.List.{List, [], ◌∷◌, ◌++◌, flat_map}
-use Prim.Native.Nat.{ℕ, zero, suc, ◌+◌, ◌*◌, ◌/◌, ◌%◌, ◌≤◌, ◌<◌}
+use Prim.Native.Nat.{ℕ, zero, suc, ◌+◌, ◌-◌, ◌*◌, ◌/◌, ◌%◌, ◌≤◌, ◌<◌}
 use native.Mathlib.Omega.{arith}
 use borrow.Author.Tests.{lt-ltb, le-ltb, ltb-false}
-use lib.ListN.{length, get_or, set, drop, length-drop}
+use lib.ListN.{length, get_or, drop, length-drop}
 use Rattle.model.specs.Basics.{done, also, check, first_met}
 use Rattle.model.specs.Table.{Table}
 use Rattle.model.specs.Port.{Port}
@@ -16,7 +17,7 @@ use Rattle.model.proofs.Checks.{first_here, first_later, first_none, none_met}
 use Rattle.model.proofs.Refusals.{refusal_unfit}
 use Rattle.model.proofs.Reports.{known_form, unknown_form, none_left, odd_length}
 use Rattle.model.proofs.Batches.{over_more}
-use Rattle.port_scheduler.proofs.Departed.{three_set}
+use Rattle.flat_queues.proofs.Slots.{three_put}
 use Rattle.flat_batch.specs.Promised.{AllRefused}
 use Rattle.port_batch.specs.Promised.{unfit}
 
@@ -70,8 +71,8 @@ unfit_more n = let e : n + 1 ≡ suc n = omega arith in rw e (go n)
     go zero = refl
     go (suc n) = ap (λ (l : List ℕ). 10 ∷ 0 ∷ 0 ∷ l) (go n)
 
-pub refuses_one : (old l l' : List ℕ) (i : ℕ) → l ≡ over (unfit i) old → 3 * i + 3 ≤ length l → l' ≡ set (set (set l (3 * i) 10) (3 * i + 1) 0) (3 * i + 2) 0 → l' ≡ over (unfit (i + 1)) old
-refuses_one old l l' i e h q = q ∙ three_set l (3 * i) 10 0 0 h ∙ over_more (unfit i) (10 ∷ 0 ∷ 0 ∷ []) old l (3 * i) (length_unfit i) e ∙ ap (λ (x : List ℕ). over x old) (sym (unfit_more i))
+pub refuses_one : (old l l' : List ℕ) (i : ℕ) → l ≡ over (unfit i) old → {numbers : List ℕ} → numbers ≡ 10 ∷ 0 ∷ 0 ∷ [] → l' ≡ put_mid (3 * i) (3 * i + 3 - 3 * i) l numbers → l' ≡ over (unfit (i + 1)) old
+refuses_one old l l' i e n q = q ∙ three_put l (3 * i) 10 0 0 n ∙ over_more (unfit i) (10 ∷ 0 ∷ 0 ∷ []) old l (3 * i) (length_unfit i) e ∙ ap (λ (x : List ℕ). over x old) (sym (unfit_more i))
 
 pub nothing_yet : (old : List ℕ) → old ≡ over (unfit 0) old
 unfolding unfit

@@ -1,8 +1,10 @@
 -- What the batch promises.
-use Rattle.std.specs.Prelude.{◌≡◌, true, List, ◌∷◌, [], ℕ, zero, suc, ◌*◌, drop}
+use Rattle.std.specs.Prelude.{◌≡◌, true, List, ◌∷◌, [], ℕ, zero, suc, ◌*◌, drop, Result, Ok, Err}
 use Rattle.model.specs.Machine.{frames_held}
 use Rattle.model.specs.Fitness.{fit}
 use Rattle.model.specs.Batch.{reports_in, Batched, batch, BatchOutcome, answer_batch, batch_or}
+use Rattle.refusal.specs.declared.Refusal.{Refusal}
+use Rattle.refusal.specs.Numbers.{number_or_0}
 use Rattle.port_scheduler.specs.View.{view_queues}
 use Rattle.port.specs.declared.Port.{Port as PortRecord}
 use Rattle.port.specs.View.{view_port_table, view_port}
@@ -16,10 +18,15 @@ batch_from p reports list = batch (view_port_table p) (view_port p) (reports_in 
 abbrev pub outcome_from : PortRecord → List ℕ → List ℕ → List ℕ → BatchOutcome
 outcome_from p reports answers list = answer_batch (view_port_table p) (view_port p) reports answers list
 
+-- the departures of an outcome, none where it is a refusal
+abbrev pub departed : Result ℕ Refusal → ℕ
+departed (Ok n) = n
+departed (Err r) = 0
+
 -- refusal, port, departures and both lists are the model's
 pub record Gives (p : PortRecord) (o : BatchOutcome) (answers list : List ℕ) (r : BatchedRecord) : Type 0 where
-  pub refused : r.refused ≡ o.refused
-  pub departures : r.departures ≡ o.departures
+  pub refused : number_or_0 r.outcome ≡ o.refused
+  pub departures : departed r.outcome ≡ o.departures
   pub port : view_port r.port ≡ o.port
   pub answers_are : answers ≡ o.answers
   pub list_is : list ≡ o.list
@@ -32,7 +39,7 @@ pub record Gives (p : PortRecord) (o : BatchOutcome) (answers list : List ℕ) (
 -- and where the call is refused, or each of its reports, the record is the very one that was handed in
 pub record Batches (p : PortRecord) (reports answers answers' list list' : List ℕ) (r : BatchedRecord) : Type 0 where
   pub gives : Gives p (outcome_from p reports answers list) answers' list' r
-  pub same : (r.refused ≡ 0 → ⊥) → r.port ≡ p
+  pub same : (number_or_0 r.outcome ≡ 0 → ⊥) → r.port ≡ p
   pub same_port : AllRefused (batch_from p reports list).entries → r.port ≡ p
 
 -- what is asked once the call is not refused and the record is fit: room for the answers, and the number of frames that it holds

@@ -1,7 +1,10 @@
 // The refusals of a batch before its first report; and a record that is not fit, which refuses each report.
-ghost use Rattle.std.specs.Prelude.{◌≡◌, ◌*◌, ◌/◌, ◌≤◌, length};
+ghost use Rattle.std.specs.Prelude.{◌≡◌, ◌*◌, ◌≤◌, length};
 ghost use Rattle.model.specs.Batch.{are_reports, batch_refusal, over};
+ghost use Rattle.refusal.specs.Numbers.{number_or_0};
 ghost use Rattle.port_batch.specs.Promised.{unfit};
+
+use refusal::Refusal;
 
 // Whether the list is of reports, each of form 0 or 1. All of them are looked at before the first is answered.
 fn are_reports(reports: &[u64]) -> bool
@@ -11,27 +14,25 @@ fn are_reports(reports: &[u64]) -> bool
         return false;
     }
     let n = reports.len() / 5;
-    let mut i: usize = 0;
-    while i < n {
+    for i in 0..n {
         if 1 < reports[5 * i] {
             return false;
         }
-        i += 1;
     }
     true
 }
 
 // 19, then 20; no product wraps.
-pub(crate) fn refusal(reports: &[u64], room: usize) -> u32
-    ensures { result ≡ batch_refusal reports.now room }
+pub(crate) fn check(reports: &[u64], room: usize) -> Result<(), Refusal>
+    ensures { number_or_0 result ≡ batch_refusal reports.now room }
 {
     if !are_reports(reports) {
-        return 19;
+        return Err(Refusal::NotReports);
     }
     if room / 3 < reports.len() / 5 {
-        return 20;
+        return Err(Refusal::AnswersTooShort);
     }
-    0
+    Ok(())
 }
 
 // 10 for each of n reports.
@@ -39,9 +40,8 @@ pub(crate) fn refuse_each(n: usize, answers: &mut [u64])
     requires { 3 * n ≤ length answers.old }
     ensures { answers.new ≡ over (unfit n) answers.old }
 {
-    let mut i: usize = 0;
-    while i < n {
-        flat_queues::put(answers, 3 * i, 10, 0, 0);
-        i += 1;
+    let refused = flat_port::numbers(Err(Refusal::PortNotFit));
+    for i in 0..n {
+        answers[3 * i..3 * i + 3].copy_from_slice(&refused);
     }
 }

@@ -1,93 +1,51 @@
-// A batch to a port that is fit: its parts go into flat lists, the reports run on them, and a port is made of them again.
-ghost use Rattle.std.specs.Prelude.{◌*◌, ◌/◌, ◌≤◌, length};
+// A batch to a port that is fit: its parts go into rings and flat lists, the reports run on them, and a port is made of them again.
+ghost use Rattle.std.specs.Prelude.{◌*◌, ◌/◌, ◌≤◌, length, Ok};
+ghost use Rattle.port.specs.Whole.{Whole};
 ghost use Rattle.port_batch.specs.Promised.{Fit, Answered};
 
-use crate::Batched;
-use flat_port::State;
+use flat_port::{FlatPort, Lists, State};
+use flat_queues::Rings;
 use port::Port;
 use port_policing::Gate;
-use units::LIST_ROOM;
 
+// The port is changed where it stands; how many departures were written.
+#[inline(never)]
 pub(crate) fn answered(
-    p: Port,
+    p: &mut Port,
     holding: u64,
     reports: &[u64],
     answers: &mut [u64],
     list: &mut [u64],
-) -> Batched
-    requires { Fit p holding × (3 * (length reports.now / 5) ≤ length answers.old) }
-    ensures { Answered p reports.now answers.old answers.new list.old list.new result }
+) -> u64
+    requires { Whole p.old × Fit p.old holding × (3 * (length reports.now / 5) ≤ length answers.old) }
+    ensures { Answered p.old reports.now answers.old answers.new list.old list.new (record { outcome = Ok result; port = p.new }) }
 {
-    let t = p.table;
-    let numbers = t.numbers;
-    let mut words = [0u64; 2060];
-    flat_table::put_table(t, &mut words);
-    let mut frames = [0u64; LIST_ROOM];
-    let mut heads = [0u64; 8];
-    let mut counts = [0u64; 8];
-    let mut held = [0u64; 8];
-    let mut marks = [0u64; 8];
-    let queues = p.queues;
-    flat_record::put_queues(queues, &mut frames, &mut counts, &mut held, &mut marks);
-    let gate = p.gate;
-    let mut ticks = gate.line_ticks;
-    let accounts = gate.accounts;
-    let mut credits = [0u64; 256];
-    let mut since = [0u64; 256];
-    flat_record::put_accounts(accounts, &mut credits, &mut since);
-    let filed = p.counts;
-    let mut tallies = [0u64; 1281];
-    flat_record::put_counts(filed, p.unknown, &mut tallies);
-    let sender = p.sender;
-    let start = State {
-        clock: p.clock,
-        sender,
-        frames: holding,
-    };
-    let ran = flat_batch::run(
-        &words,
-        &numbers,
-        &mut frames,
-        &mut heads,
-        &mut counts,
-        &mut held,
-        &mut marks,
-        &mut ticks,
-        &mut credits,
-        &mut since,
-        &mut tallies,
-        start,
-        reports,
-        answers,
-        list,
-    );
-    if !ran.accepted {
-        return Batched {
-            refused: 0,
-            departures: ran.departures,
-            port: p,
-        };
-    }
-    let state = ran.state;
-    let sending = state.sender;
-    let left = flat_record::queues_of(&frames, &heads, &counts, &marks);
-    let charged = flat_record::accounts_of(&credits, &since);
-    let counted = flat_record::counts_of(&tallies);
-    let unknown = tallies[1280];
-    Batched {
-        refused: 0,
-        departures: ran.departures,
-        port: Port {
-            table: t,
-            clock: state.clock,
-            queues: left,
-            sender: sending,
-            gate: Gate {
-                line_ticks: ticks,
-                accounts: charged,
-            },
-            counts: counted,
-            unknown,
+    let mut flat = FlatPort {
+        lists: Lists {
+            rings: Rings::empty(),
+            ticks: p.gate.line_ticks,
+            accounts: p.gate.accounts,
+            tallies: [0; 1281],
         },
-    }
+        state: State {
+            clock: p.clock,
+            sender: p.sender,
+            frames: holding,
+        },
+    };
+    flat_record::put_queues(p.queues, &mut flat.lists.rings);
+    flat_record::put_counts(p.counts, p.unknown, &mut flat.lists.tallies);
+    let Some(departures) = flat_batch::run(&mut flat, &p.table, reports, answers, list) else {
+        return 0;
+    };
+    p.queues = flat_record::queues_of(&flat.lists.rings);
+    p.counts = flat_record::counts_of(&flat.lists.tallies);
+    p.clock = flat.state.clock;
+    p.sender = flat.state.sender;
+    p.gate = Gate {
+        line_ticks: flat.lists.ticks,
+        accounts: flat.lists.accounts,
+    };
+    p.unknown = flat.lists.tallies[1280];
+    departures
 }

@@ -5,8 +5,9 @@
 
 ghost use Rattle.std.specs.Prelude.{◌≤◌};
 
-use little_endian::read4;
+use little_endian::LittleEndian;
 use port::Port;
+use port_scheduler::frames_held;
 use units::LIST_ROOM;
 
 // The files that a program begins with.
@@ -22,9 +23,9 @@ fn main() {
     let mut file = [0u8; 4653];
     let n = io::read_full(STDIN_FILENO, &mut file);
     // Below 2^32, which is enough.
-    let frames = read4(&head, 0) as u64;
-    let waits = read4(&head, 8) as u64;
-    let reports = read4(&head, 16) as u64;
+    let frames = u64::from(u32::read(&head, 0));
+    let waits = u64::from(u32::read(&head, 8));
+    let reports = u64::from(u32::read(&head, 16));
     run(&file[..n], frames, waits, reports);
 }
 
@@ -32,13 +33,11 @@ fn main() {
 fn run(file: &[u8], frames: u64, waits: u64, reports: u64)
     requires { (frames ≤ 4294967295) × (waits ≤ 4294967295) × (reports ≤ 4294967295) }
 {
-    let reading = table_file::read(file);
-    let t = reading.table;
-    let fresh = Port::fresh(t);
-    let queued = waited(filled(fresh.port, frames), waits);
-    let port = reported(queued, reports);
-    let queues = port.queues;
-    io::print_decimal(STDOUT_FILENO, port_scheduler::frames_held(queues));
+    let held = match table_file::read(file).and_then(Port::fresh) {
+        Ok(port) => frames_held(reported(waited(filled(port, frames), waits), reports).queues),
+        Err(_) => 0,
+    };
+    io::print_decimal(STDOUT_FILENO, held);
     io::write_all(STDOUT_FILENO, b"\n");
 }
 
@@ -47,43 +46,30 @@ fn filled(mut port: Port, frames: u64) -> Port
     requires { frames ≤ 4294967295 }
 {
     let mut list = [0u64; LIST_ROOM];
-    let mut i: u64 = 0;
-    while i < frames {
-        port = framed(port, 84 * (i / 24 + 1), i % 24, i % 240, &mut list);
-        i += 1;
+    for i in 0..frames {
+        port = port
+            .frame(84 * (i / 24 + 1), i % 24, i % 240, 84, &mut list)
+            .port;
     }
     port
 }
 
-fn framed(port: Port, tick: u64, line: u64, number: u64, list: &mut [u64; LIST_ROOM]) -> Port {
-    let a = port.frame(tick, line, number, 84, list);
-    a.port
-}
-
 // So many waits, four at a time.
-fn waited(mut port: Port, waits: u64) -> Port
-    requires { waits ≤ 4294967295 }
-{
+fn waited(mut port: Port, waits: u64) -> Port {
     let mut list = [0u64; LIST_ROOM];
     let tick = port.clock;
-    let mut i: u64 = 0;
-    while i < waits {
+    for _ in (0..waits).step_by(4) {
         port = four_waits(port, tick, &mut list);
-        i += 4;
     }
     port
 }
 
 // Each is given the port that the one before handed back.
 fn four_waits(port: Port, tick: u64, list: &mut [u64; LIST_ROOM]) -> Port {
-    let a = port.wait(tick, list);
-    let first = a.port;
-    let b = first.wait(tick, list);
-    let second = b.port;
-    let c = second.wait(tick, list);
-    let third = c.port;
-    let d = third.wait(tick, list);
-    d.port
+    let first = port.wait(tick, list).port;
+    let second = first.wait(tick, list).port;
+    let third = second.wait(tick, list).port;
+    third.wait(tick, list).port
 }
 
 // So many frames of 84 bytes, four at a time, each 84 ticks after the one before: of a fresh port none waits.
@@ -91,10 +77,8 @@ fn reported(mut port: Port, reports: u64) -> Port
     requires { reports ≤ 4294967295 }
 {
     let mut list = [0u64; LIST_ROOM];
-    let mut i: u64 = 0;
-    while i < reports {
+    for i in (0..reports).step_by(4) {
         port = four_frames(port, 84 * (i + 1), i % 24, i % 240, &mut list);
-        i += 4;
     }
     port
 }
@@ -102,12 +86,10 @@ fn reported(mut port: Port, reports: u64) -> Port
 fn four_frames(port: Port, tick: u64, line: u64, number: u64, list: &mut [u64; LIST_ROOM]) -> Port
     requires { (tick ≤ 1099511627776) × (line ≤ 24) × (number ≤ 240) }
 {
-    let a = port.frame(tick, line, number, 84, list);
-    let first = a.port;
-    let b = first.frame(tick + 84, line + 1, number + 1, 84, list);
-    let second = b.port;
-    let c = second.frame(tick + 168, line + 2, number + 2, 84, list);
-    let third = c.port;
-    let d = third.frame(tick + 252, line + 3, number + 3, 84, list);
-    d.port
+    let first = port.frame(tick, line, number, 84, list).port;
+    let second = first.frame(tick + 84, line + 1, number + 1, 84, list).port;
+    let third = second
+        .frame(tick + 168, line + 2, number + 2, 84, list)
+        .port;
+    third.frame(tick + 252, line + 3, number + 3, 84, list).port
 }

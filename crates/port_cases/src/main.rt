@@ -3,13 +3,14 @@
 // src/cases/port.rs has the form of a case.
 #![tactic(auto)]
 
-use case_records::given::least;
-use case_records::rows::{number, print, say};
-use case_records::tables::STDIN_FILENO;
+use case_records::reader::Reader;
 use case_records::{record, sums};
-use little_endian::{read2, read8};
+use little_endian::LittleEndian;
 use port::{Answer, Port};
+use port_refusals::verdict_or_0;
 use port_scheduler::Queue;
+use refusal::number_or_0;
+use std::io::{Read, Result};
 use units::{LIST_ROOM, MOST_FRAMES};
 
 // The longest record of a case.
@@ -23,144 +24,112 @@ const LIST: usize = LIST_ROOM + 20;
 // What a list is filled with before it is lent.
 const FILLED: u64 = 0xA5A5A5A5A5A5A5A5;
 
-// The port after some reports, and whether one of them was accepted.
-#[derive(Clone, Copy)]
-struct Reached {
-    port: Port,
-    moved: bool,
+fn main(rt: HostRuntime) {
+    cases::run(|| next_case(&rt));
 }
 
-fn main() {
-    // Nothing says that the input ends, so the loop counts down, from a number that no run uses up.
-    let mut turns = u64::MAX;
-    while turns > 0 && next_case() {
-        turns -= 1;
-    }
-}
-
-// Reads a case and prints its lines; false where the input ends.
-fn next_case() -> bool {
+// Reads a case and prints its lines; an error where the input ends.
+fn next_case(rt: &HostRuntime) -> Result<()> {
     let mut head = [0u8; 3];
-    if io::read_full(STDIN_FILENO, &mut head) < 3 {
-        return false;
-    }
+    rt.stdin().read_exact(&mut head)?;
+    let n = usize::from(u16::read(&head, 1)).min(BODY);
     let mut body = [0u8; BODY];
-    if !take(read2(&head, 1) as isize, &mut body) {
-        return false;
-    }
+    rt.stdin().read_exact(&mut body[..n])?;
     let mut many = [0u8; 2];
-    if io::read_full(STDIN_FILENO, &mut many) < 2 {
-        return false;
-    }
-    run(start(head[0], &body), read2(&many, 0));
-    true
+    rt.stdin().read_exact(&mut many)?;
+    let port = start(rt, head[0], &body)?;
+    run(rt, port, u16::read(&many, 0))
 }
 
-// Reads the bytes of a record to the start of body; false where they are not all there.
-fn take(length: isize, body: &mut [u8]) -> bool {
-    let n = io::count(length, body);
-    io::read_full(STDIN_FILENO, &mut body[..n]) == n
-}
-
-fn start(form: u8, body: &[u8]) -> Port {
+fn start(rt: &HostRuntime, form: u8, body: &[u8]) -> Result<Port> {
     if form == 2 {
-        say(b"record\n");
-        return record::port_of(body);
+        println!(rt; "record")?;
+        return Ok(record::port_of(body));
     }
-    let fresh = Port::fresh(record::table_at(body, 0));
-    let port = fresh.port;
-    say(b"fresh ");
-    print(fresh.refused as u64);
-    number(sums::of_port(port, true));
-    say(b"\n");
-    port
+    // Where there is none, the port whose record is empty.
+    let fresh = Port::fresh(record::table_of(body));
+    let port = fresh.unwrap_or(record::port_of(&[]));
+    println!(rt;
+        "fresh {} {}",
+        number_or_0(fresh),
+        sums::of_port(port, true)
+    )?;
+    Ok(port)
 }
 
-fn run(port: Port, many: u16) {
-    let mut now = Reached { port, moved: false };
-    for _i in 0..many {
-        now = next_report(now);
+// The whole port is summed at the end where no report was accepted.
+fn run(rt: &HostRuntime, start: Port, many: u16) -> Result<()> {
+    let mut port = start;
+    let mut moved = false;
+    for _ in 0..many {
+        let a = next_report(rt, port)?;
+        port = a.port;
+        moved |= a.outcome.is_ok();
     }
-    let last = now.port;
-    say_end(last, !now.moved);
-    say_counts(last);
+    print_end(rt, port, !moved)?;
+    print_counts(rt, port)
 }
 
-fn next_report(now: Reached) -> Reached {
+// Reads a report, whose end counts as 0 where the input has none, and prints the answer.
+fn next_report(rt: &HostRuntime, port: Port) -> Result<Answer> {
     let mut bytes = [0u8; REPORT];
-    io::read_full(STDIN_FILENO, &mut bytes);
-    let before = now.port;
-    let a = answer(before, &bytes);
-    let port = a.port;
-    Reached {
-        port,
-        moved: now.moved || a.refused == 0,
-    }
-}
-
-fn answer(port: Port, bytes: &[u8; REPORT]) -> Answer {
+    let _ = rt.stdin().read_exact(&mut bytes);
     let mut list = [FILLED; LIST];
-    let a = lent(port, bytes, &mut list);
-    let sum = sums::of_list(&list, read2(bytes, 1) as usize);
-    if a.refused != 0 {
-        say(b"refused ");
-        print(a.refused as u64);
-    } else {
-        say(b"accepted ");
-        print(a.verdict as u64);
-        number(a.frames);
-        number(a.bytes);
+    let room = usize::from(u16::read(&bytes, 1)).min(LIST);
+    let a = report(port, &bytes, &mut list[..room]);
+    match a.outcome {
+        Ok(accepted) => {
+            let verdict = verdict_or_0(accepted.verdict);
+            print!(rt; "accepted {verdict} {} {}", accepted.frames, accepted.bytes)?;
+        }
+        Err(refusal) => print!(rt; "{refusal}")?,
     }
-    number(sum);
-    say(b"\n");
-    a
+    println!(rt; " {}", sums::of_list(&list, room))?;
+    Ok(a)
 }
 
-// The report is lent as many numbers of the list as it says.
-fn lent(port: Port, bytes: &[u8; REPORT], list: &mut [u64]) -> Answer {
-    let n = least(read2(bytes, 1) as usize, list.len());
-    report(port, bytes, &mut list[..n])
-}
-
-fn report(port: Port, bytes: &[u8; REPORT], list: &mut [u64]) -> Answer {
-    let tick = read8(bytes, 3);
-    if bytes[0] == 0 {
+// Form, room of the list, tick, line, number, length.
+fn report(port: Port, bytes: &[u8], list: &mut [u64]) -> Answer {
+    let mut r = Reader { rest: bytes };
+    let form: u8 = r.number();
+    let _room: u16 = r.number();
+    let tick = r.number();
+    if form == 0 {
         return port.wait(tick, list);
     }
-    let line = read8(bytes, 11);
-    let number = read8(bytes, 19);
-    let length = read8(bytes, 27);
+    let line = r.number();
+    let number = r.number();
+    let length = r.number();
     port.frame(tick, line, number, length, list)
 }
 
-fn say_end(port: Port, whole: bool) {
-    say(b"end ");
-    print(port.clock);
-    number(sums::of_port(port, whole));
-    for p in 0..8 {
-        let q = port.queues[p];
-        number(held(q));
-        number(q.mark as u64);
+fn print_end(rt: &HostRuntime, port: Port, whole: bool) -> Result<()> {
+    print!(rt; "end {} {}", port.clock, sums::of_port(port, whole))?;
+    for q in &port.queues {
+        print!(rt; " {} {}", held(*q), q.mark)?;
     }
-    say(b"\n");
+    println!(rt)
 }
 
-fn say_counts(port: Port) {
-    let s = port_sums::sums_of(port);
-    let of_links = s.sums;
-    say(b"counts ");
-    print(s.refused as u64);
-    number(if s.has_total { 1 } else { 0 });
-    number(s.total);
-    number(port.unknown);
-    number(sums::of_list(&of_links, 256));
-    say(b"\n");
+fn print_counts(rt: &HostRuntime, port: Port) -> Result<()> {
+    let added = port_sums::sums_of(port);
+    let of_links = added.map_or([0; 256], |s| s.sums);
+    let total = added.ok().and_then(|s| s.total);
+    print!(rt;
+        "counts {} {} ",
+        number_or_0(added),
+        u8::from(total.is_some())
+    )?;
+    println!(rt;
+        "{} {} {}",
+        total.unwrap_or(0),
+        port.unknown,
+        sums::of_list(&of_links, 256)
+    )
 }
 
 // The bytes of the frames up to the count, as far as the array goes.
-fn held(q: Queue) -> u64 {
-    let n = least(q.count as usize, MOST_FRAMES);
-    let mut r = q;
-    r.count = n as u16;
-    port_scheduler::held(r)
+fn held(mut q: Queue) -> u64 {
+    q.count = q.count.min(MOST_FRAMES as u16);
+    port_scheduler::held(q)
 }

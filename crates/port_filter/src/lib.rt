@@ -7,34 +7,23 @@ ghost use Rattle.model.specs.Report.{admits as admitsFrame};
 ghost use Rattle.table.specs.View.{view_link, view_table};
 ghost use Rattle.port_filter.specs.Filter.{Admits};
 
-use numbers::{u8_as_u64, u16_as_u64};
 use table::{Table, VirtualLink};
-use table_lookup::Place;
 
 // Whether a link of that number, whatever it is, lets the frame through: it came on the link's line, within its lengths.
-fn admits(link: VirtualLink, line: u64, length: u64) -> bool
+pub fn admits(link: VirtualLink, line: u64, length: u64) -> bool
     ensures { (n : ℕ) → result ≡ admitsFrame (view_link n link) line «length» }
 {
-    if u8_as_u64(link.line) != line {
+    if u64::from(link.line) != line {
         return false;
     }
-    if length < u16_as_u64(link.least) {
-        return false;
-    }
-    length <= u16_as_u64(link.greatest)
+    u64::from(link.least) <= length && length <= u64::from(link.greatest)
 }
 
 // The place of the link that has the frame's number, if it lets the frame through.
-pub fn admitted(t: Table, line: u64, number: u64, length: u64) -> Place
+pub fn admitted(t: Table, line: u64, number: u64, length: u64) -> Option<usize>
     requires { table_refusal (view_table t) ≡ 0 }
     ensures { Admits t line number «length» result }
 {
-    let Place::At(i) = table_lookup::place_of(&t.numbers, t.count, number) else {
-        return Place::Nowhere;
-    };
-    let link = t.links[i];
-    if admits(link, line, length) {
-        return Place::At(i);
-    }
-    Place::Nowhere
+    let i = table_lookup::place_of(&t.numbers, t.count, number)?;
+    admits(t.links[i], line, length).then_some(i)
 }

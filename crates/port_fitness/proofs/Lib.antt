@@ -1,4 +1,3 @@
 pub mod All
 pub mod Entries
-pub mod Frames
 pub mod Sending

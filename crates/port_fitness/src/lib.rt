@@ -9,29 +9,21 @@ ghost use Rattle.table.specs.View.{view_link};
 ghost use Rattle.port_scheduler.specs.View.{blank_queue, view_frame, view_queues};
 ghost use Rattle.port_fitness.specs.Conditions.{frame_fits, lines_fit, ticks_fit, credits_fit};
 
-use numbers::{u16_as_u64, u32_as_u64};
-use port_policing::Account;
+use port_policing::{Account, full_account};
 use port_scheduler::{Frame, Queue};
 use table::{Table, VirtualLink};
 
 // A frame has the queue's priority and a length within its link's limits.
 // It arrived no earlier than the frame before it, and by the clock.
+#[tactic(auto, unfolding(model::specs::Basics::all_hold))]
 pub fn frame_fits(link: VirtualLink, f: Frame, priority: u8, low: u64, clock: u64) -> bool
     ensures { (n : ℕ) → result ≡ frame_fits (view_link n link) priority clock low (view_frame f) }
 {
-    if link.priority != priority {
-        return false;
-    }
-    if f.length < link.least {
-        return false;
-    }
-    if link.greatest < f.length {
-        return false;
-    }
-    if f.arrival < low {
-        return false;
-    }
-    f.arrival <= clock
+    link.priority == priority
+        && link.least <= f.length
+        && f.length <= link.greatest
+        && low <= f.arrival
+        && f.arrival <= clock
 }
 
 // The head of the queue whose head is being sent: it arrived by its start, and start < clock < start + length.
@@ -48,7 +40,7 @@ pub fn head_fits(q: Queue, start: u64, clock: u64) -> bool
     if clock <= start {
         return false;
     }
-    clock - start < u16_as_u64(f.length)
+    clock - start < u64::from(f.length)
 }
 
 // The tick of a line is at most the clock.
@@ -56,15 +48,9 @@ pub fn lines_fit(ticks: [u64; 24], lines: u16, clock: u64) -> bool
     requires { lines ≤ 24 }
     ensures { result ≡ lines_fit ticks lines clock }
 {
-    let n = lines as usize;
-    let mut i: usize = 0;
-    while i < n {
-        if clock < ticks[i] {
-            return false;
-        }
-        i += 1;
-    }
-    true
+    ticks[..usize::from(lines)]
+        .iter()
+        .all(|&tick| tick <= clock)
 }
 
 // Of each account: its tick is at most the clock, its credit at most B + J.
@@ -72,17 +58,14 @@ pub fn accounts_fit(accounts: [Account; 256], t: Table, clock: u64) -> bool
     requires { t.count ≤ 256 }
     ensures { result ≡ all_hold (ticks_fit accounts t.count clock ∷ credits_fit accounts t ∷ []) }
 {
-    let n = t.count as usize;
-    let mut i: usize = 0;
-    while i < n {
-        if clock < accounts[i].tick {
+    for i in 0..usize::from(t.count) {
+        let account = accounts[i];
+        if clock < account.tick {
             return false;
         }
-        let link = t.links[i];
-        if table::bag(link.code) + u32_as_u64(link.jitter) < accounts[i].credit {
+        if full_account(t.links[i]).credit < account.credit {
             return false;
         }
-        i += 1;
     }
     true
 }

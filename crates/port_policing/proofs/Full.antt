@@ -7,11 +7,11 @@ use native.Mathlib.Omega.{arith}
 use lib.ListN.{length, get_or, set, take, replicate, length-map}
 use lib.Seq.{take-suc, take_all, length-take-le}
 use Rattle.model.specs.Basics.{entries}
-use Rattle.model.specs.Link.{VirtualLink, blank_link, bag_of, link_at}
+use Rattle.model.specs.Link.{VirtualLink, blank_link, link_at}
 use Rattle.model.specs.Port.{Account, blank_account, full_account}
 use Rattle.model.proofs.Entries.{entries_blank, entries_next}
 use Rattle.table.specs.declared.Table.{Table as TableRecord}
-use Rattle.table.specs.View.{blank_fields, view_links}
+use Rattle.table.specs.View.{blank_fields, view_link, view_links}
 use Rattle.table.proofs.Shape.{Sized, link_shown, count_shown}
 use Rattle.port_policing.specs.declared.Account.{Account as AccountRecord}
 use Rattle.port_policing.specs.Check.{view_account, record_account}
@@ -33,10 +33,10 @@ one_more links i h k =
     (rw n at same) ∙ rw (add-one, take-suc links i blank_link h, map-append full_account (take i links) (link_at links i ∷ []), map-append record_account (map full_account (take i links)) (full_account (link_at links i) ∷ []))
 
 module _ (t : TableRecord) (s : Sized t) (few : t.count ≤ 256) (i : ℕ) (below : i < t.count) where
-  pub next_account : {b j : ℕ} → b ≡ bag_of (get_or t.links i blank_fields).code → j ≡ (get_or t.links i blank_fields).jitter →
-      set (accounts_of (take i (view_links t))) i (record { credit = b + j; tick = 0 }) ≡ accounts_of (take (i + 1) (view_links t))
-  next_account {b} {j} e q =
-      let full : ◌≡◌ {A = AccountRecord} (record { credit = b + j; tick = 0 }) (record_account (full_account (link_at (view_links t) i))) = rw (link_shown t i s below few, e, q) in
+  pub next_account : {r : AccountRecord} → ((n : ℕ) → r ≡ record_account (full_account (view_link n (get_or t.links i blank_fields)))) →
+      set (accounts_of (take i (view_links t))) i r ≡ accounts_of (take (i + 1) (view_links t))
+  next_account {r} e =
+      let full : r ≡ record_account (full_account (link_at (view_links t) i)) = rw (link_shown t i s below few) (e (get_or t.numbers i 0)) in
       rw full (one_more (view_links t) i (omega (arith, count_shown t)) (omega arith))
 
 pub all_accounts : (t : TableRecord) (i : ℕ) → t.count ≤ i → accounts_of (take i (view_links t)) ≡ full_accounts t

@@ -1,12 +1,13 @@
 // Internal to the product: the account of a virtual link (a token bucket), the police check, the accounts at rest, and the gate.
 #![tactic(auto)]
 
-ghost use Rattle.std.specs.Prelude.{◌≡◌, ◌+◌, ◌-◌, ◌≤◌, ◌<◌, min};
-ghost use Rattle.port_policing.specs.Check.{check_by};
+ghost use Rattle.std.specs.Prelude.{◌≡◌, ◌+◌, ◌-◌, ◌≤◌, ◌<◌, min, ℕ};
+ghost use Rattle.model.specs.Port.{full_account};
+ghost use Rattle.table.specs.View.{view_link};
+ghost use Rattle.port_policing.specs.Check.{record_account, check_by};
 ghost use Rattle.port_policing.specs.Full.{full_accounts};
 
-use numbers::{excess, u32_as_u64};
-use table::Table;
+use table::{Table, VirtualLink};
 
 // Credit in ticks, and the tick of its last change.
 #[derive(Clone, Copy)]
@@ -23,23 +24,11 @@ pub struct Gate {
 }
 
 // Whether the frame passed, and the account after it.
+// No Option or Result: there is an account after either outcome, `passed` says nothing of whether it is there.
 #[derive(Clone, Copy)]
 pub struct Checked {
     pub passed: bool,
     pub account: Account,
-}
-
-// The smaller of top and x + y; no sum wraps.
-fn capped_sum(top: u64, x: u64, y: u64) -> u64
-    ensures { result ≡ min top (x + y) }
-{
-    if top <= x {
-        return top;
-    }
-    if top - x <= y {
-        return top;
-    }
-    x + y
 }
 
 // The police check of a frame at a tick, for any BAG and jitter. The sum B + J is not formed, so that none can wrap:
@@ -47,8 +36,8 @@ fn capped_sum(top: u64, x: u64, y: u64) -> u64
 pub fn police(a: Account, bag: u64, jitter: u64, time: u64) -> Checked
     ensures { result ≡ check_by bag jitter a time }
 {
-    let gone = excess(time, a.tick);
-    let short = excess(bag, a.credit);
+    let gone = time.saturating_sub(a.tick);
+    let short = bag.saturating_sub(a.credit);
     if gone < short {
         let grown = a.credit + gone;
         return Checked {
@@ -59,7 +48,8 @@ pub fn police(a: Account, bag: u64, jitter: u64, time: u64) -> Checked
             },
         };
     }
-    let credit = capped_sum(jitter, excess(a.credit, bag), gone - short);
+    let rest = a.credit.saturating_sub(bag);
+    let credit = jitter.min(rest.saturating_add(gone - short));
     Checked {
         passed: true,
         account: Account { credit, tick: time },
@@ -75,23 +65,25 @@ pub fn charge(a: &mut Account, bag: u64, jitter: u64, time: u64) -> bool
     c.passed
 }
 
+// A full account: credit B + J.
+pub fn full_account(link: VirtualLink) -> Account
+    ensures { (n : ℕ) → result ≡ record_account (full_account (view_link n link)) }
+{
+    Account {
+        credit: table::bag(link.code) + u64::from(link.jitter),
+        tick: 0,
+    }
+}
+
 // Credit B + J for each link; the accounts behind the count are blank.
 pub fn full_accounts(t: Table) -> [Account; 256]
     requires { t.count ≤ 256 }
     ensures { result ≡ full_accounts t }
 {
-    let n = t.count as usize;
     let blank = Account { credit: 0, tick: 0 };
     let mut accounts = [blank; 256];
-    let mut i: usize = 0;
-    while i < n {
-        let link = t.links[i];
-        let full = Account {
-            credit: table::bag(link.code) + u32_as_u64(link.jitter),
-            tick: 0,
-        };
-        accounts[i] = full;
-        i += 1;
+    for i in 0..usize::from(t.count) {
+        accounts[i] = full_account(t.links[i]);
     }
     accounts
 }

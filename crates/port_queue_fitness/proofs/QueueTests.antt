@@ -1,4 +1,6 @@
 -- The loop over the frames of a queue, and the loop over the queues.
+use Rattle.std.specs.Prelude.{Option, Some, None}
+use Rattle.std.specs.Bool.{then_some}
 use mathlib.Core.Path.{◌≡◌, refl, sym, ap, ◌∙◌}
 use mathlib.Core.Bool.{Bool, true, false, ◌&&◌}
 use mathlib.Core.List.{List, [], ◌∷◌}
@@ -10,7 +12,7 @@ use lib.ListN.{length, get_or, take, drop, get_or-map}
 use Rattle.model.specs.Units.{most_frames}
 use Rattle.model.specs.Link.{link_at, place_of}
 use Rattle.model.specs.Table.{table_refusal}
-use Rattle.model.specs.Basics.{provided, all_to, all_hold}
+use Rattle.model.specs.Basics.{all_to, all_hold}
 use Rattle.model.specs.Machine.{Frame, queue_of, bytes, held, frames_held}
 use Rattle.model.specs.Fitness.{frames_fit, sender_fit}
 use Rattle.model.proofs.Checks.{all_true, true_all}
@@ -18,16 +20,13 @@ use Rattle.table.specs.declared.Table.{Table as TableRecord}
 use Rattle.table.specs.View.{view_link, blank_fields, view_links, view_table}
 use Rattle.table.proofs.PassingRecord.{entry_is}
 use Rattle.port_scheduler.specs.declared.Queue.{Queue}
-use Rattle.port_scheduler.specs.declared.Sender.{Sender as SenderRecord}
+use Rattle.port_scheduler.specs.declared.Sending.{Sending}
 use Rattle.port_scheduler.specs.View.{view_frame, blank_entry, blank_queue, view_queue, view_queues, view_marks, view_sender}
 use Rattle.port_scheduler.proofs.Shown.{count_shown, queue_shown, queue_count}
 use Rattle.port_scheduler.proofs.Sums.{frames_all}
-use Rattle.port_queue_fitness.specs.declared.Fitness.{Fitness}
-use Rattle.table_lookup.specs.declared.Place.{Place}
-use Rattle.table_lookup.specs.declared.Place.TheVariants.{At, Nowhere}
 use Rattle.table_lookup.specs.Places.{view_place, Found}
 use Rattle.port_fitness.specs.Conditions.{frame_fits}
-use Rattle.port_queue_fitness.specs.Queues.{load_fits, queue_fits, queues_fit, fitness_if, queues_fitness}
+use Rattle.port_queue_fitness.specs.Queues.{load_fits, queue_fits, queues_fit, queues_fitness}
 use Rattle.port_fitness.proofs.All.{not_both, same_truth, any_false, all_stops, all_end}
 use Rattle.table_lookup.proofs.Tables.{links_named}
 use Rattle.port_queue_fitness.proofs.Frames.{frame_shown, names_none, names_one, frames_end}
@@ -41,7 +40,7 @@ module _ (t : TableRecord) (q : Queue) (p clock low i : ℕ)
       rw (e, x) (same_truth _ _ (λ y. true_all _ (all, (y, tt))) (λ (y : load_fits t clock p q ≡ true). (all_true _ y).1.0))
 
   module _ (pass : table_refusal (view_table t) ≡ 0) (w : q.count ≤ length q.frames) (h : i < q.count)
-      (n : ℕ) (same : n ≡ (get_or q.frames i blank_entry).number) (r : Place) (found : Found t.numbers t.count n r) where
+      (n : ℕ) (same : n ≡ (get_or q.frames i blank_entry).number) (r : Option ℕ) (found : Found t.numbers t.count n r) where
     abbrev f : Frame
     f = view_frame (get_or q.frames i blank_entry)
 
@@ -52,10 +51,10 @@ module _ (t : TableRecord) (q : Queue) (p clock low i : ℕ)
     unfolding view_table
     place_is = rw (← same) (found.place (view_links t) (links_named t pass))
 
-    pub unnamed : r ≡ Nowhere → false ≡ load_fits t clock p q
+    pub unnamed : r ≡ None → false ≡ load_fits t clock p q
     unnamed e = any_false _ 0 (so_far ∙ names_none (view_table t) p clock low (view_queue q) i within f (frame_shown q i h w) (place_is ∙ ap view_place e))
 
-    module _ (k : ℕ) (e : r ≡ At k) (b : Bool) (is : (m : ℕ) → b ≡ frame_fits (view_link m (get_or t.links k blank_fields)) p clock low f) where
+    module _ (k : ℕ) (e : r ≡ Some k) (b : Bool) (is : (m : ℕ) → b ≡ frame_fits (view_link m (get_or t.links k blank_fields)) p clock low f) where
       link_is : link_at (view_table t).links k ≡ view_link (get_or t.numbers k 0) (get_or t.links k blank_fields)
       unfolding view_table
       link_is = entry_is t pass k (found.below k e)
@@ -124,28 +123,23 @@ none_queued t clock p r e =
     ))
 
 -- ---- what is told of all queues and of the sender
-pub frames_counted : {r : Fitness} {b : Bool} {n : ℕ} → r ≡ fitness_if b n → r.fits ≡ true → r.frames ≡ n
-unfolding provided
-frames_counted {r} {b} {n} e fits = ap (λ (x : Fitness). x.frames) e ∙ rw (sym (ap (λ (x : Fitness). x.fits) e) ∙ fits)
+module _ (t : TableRecord) (clock : ℕ) (queues : List Queue) (sender : Option Sending) where
+  abbrev fits : Bool
+  fits = all_hold (queues_fit t clock queues ∷ sender_fit clock (view_queues queues) (view_sender sender) ∷ [])
 
-abbrev pub not_fit : Fitness
-not_fit = record { fits = false; frames = 0 }
+  unfit_told : false ≡ fits → None ≡ queues_fitness t clock queues sender
+  unfit_told x = ap (λ (b : Bool). then_some b (frames_held (view_queues queues))) x
 
-module _ (t : TableRecord) (clock : ℕ) (queues : List Queue) (sender : SenderRecord) where
-  module _ {r : Fitness} (none : r ≡ not_fit) where
-    unfit_told : false ≡ all_hold (queues_fit t clock queues ∷ sender_fit clock (view_queues queues) (view_sender sender) ∷ []) → r ≡ queues_fitness t clock queues sender
-    unfolding provided
-    unfit_told x = rw (← x) none
+  pub queue_told : (i : ℕ) → i < 8 → queue_fits t clock queues i ≡ false → None ≡ queues_fitness t clock queues sender
+  queue_told i h x = unfit_told (any_false _ 0 (sym (all_stops _ 8 i h x)))
 
-    pub queue_told : (i : ℕ) → i < 8 → queue_fits t clock queues i ≡ false → r ≡ queues_fitness t clock queues sender
-    queue_told i h x = unfit_told (any_false _ 0 (sym (all_stops _ 8 i h x)))
+  pub sender_told : false ≡ sender_fit clock (view_queues queues) (view_sender sender) → None ≡ queues_fitness t clock queues sender
+  sender_told x = unfit_told (any_false _ 1 (sym x))
 
-    pub sender_told : false ≡ sender_fit clock (view_queues queues) (view_sender sender) → r ≡ queues_fitness t clock queues sender
-    sender_told x = unfit_told (any_false _ 1 (sym x))
-
+  -- all queues fit, and then it is the sender's turn
   pub all_told : (i : ℕ) → i ≤ 8 → 8 ≤ i → length queues ≡ 8 → all_to (queue_fits t clock queues) i ≡ true → {frames : ℕ} → frames ≡ frames_held (take i (view_queues queues))
-      → true ≡ sender_fit clock (view_queues queues) (view_sender sender) → ◌≡◌ {A = Fitness} (record { fits = true; frames = frames }) (queues_fitness t clock queues sender)
-  unfolding provided
-  all_told i h k n all e x =
-      let fits_is : true ≡ all_hold (queues_fit t clock queues ∷ sender_fit clock (view_queues queues) (view_sender sender) ∷ []) = sym (true_all _ (sym (all_end _ 8 i h k all), (sym x, tt))) in
+      → (b : Bool) → b ≡ sender_fit clock (view_queues queues) (view_sender sender) → then_some b frames ≡ queues_fitness t clock queues sender
+  all_told i h k n all e b x =
+      let fits_is : b ≡ fits =
+      same_truth b fits (λ y. true_all _ (sym (all_end _ 8 i h k all), (sym x ∙ y, tt))) (λ (y : fits ≡ true). x ∙ (all_true _ y).1.0) in
       rw (← fits_is, e ∙ frames_all queues i (omega arith))

@@ -1,15 +1,15 @@
 -- The conditions of fitness on queues and sender, over the records of the code.
-use Rattle.std.specs.Prelude.{Bool, List, [], ◌∷◌, ℕ, leb, length, get_or}
-use Rattle.model.specs.Basics.{provided, all_to, all_hold}
+use Rattle.std.specs.Prelude.{Bool, List, [], ◌∷◌, ℕ, leb, length, get_or, Option}
+use Rattle.std.specs.Bool.{then_some}
+use Rattle.model.specs.Basics.{all_to, all_hold}
 use Rattle.model.specs.Units.{most_frames}
 use Rattle.model.specs.Machine.{queue_of, held, frames_held}
 use Rattle.model.specs.Fitness.{frames_fit, sender_fit}
 use Rattle.table.specs.declared.Table.{Table as TableRecord}
 use Rattle.table.specs.View.{view_table}
 use Rattle.port_scheduler.specs.declared.Queue.{Queue}
-use Rattle.port_scheduler.specs.declared.Sender.{Sender as SenderRecord}
+use Rattle.port_scheduler.specs.declared.Sending.{Sending}
 use Rattle.port_scheduler.specs.View.{view_queue, view_queues, view_marks, view_sender}
-use Rattle.port_queue_fitness.specs.declared.Fitness.{Fitness}
 
 -- of one queue, of priority p: its frames and its held sum
 abbrev pub load_fits : TableRecord → ℕ → ℕ → Queue → Bool
@@ -29,10 +29,6 @@ queue_fits t clock queues p =
 abbrev pub queues_fit : TableRecord → ℕ → List Queue → Bool
 queues_fit t clock queues = all_to (queue_fits t clock queues) 8
 
--- whether what was tested fits, and the frames held if so, else 0
-abbrev pub fitness_if : Bool → ℕ → Fitness
-fitness_if fits frames = record { fits = fits; frames = provided fits frames }
-
--- of the queues and the sender
-abbrev pub queues_fitness : TableRecord → ℕ → List Queue → SenderRecord → Fitness
-queues_fitness t clock queues sender = fitness_if (all_hold (queues_fit t clock queues ∷ sender_fit clock (view_queues queues) (view_sender sender) ∷ [])) (frames_held (view_queues queues))
+-- of the queues and the sender: the frames held, if they fit
+abbrev pub queues_fitness : TableRecord → ℕ → List Queue → Option Sending → Option ℕ
+queues_fitness t clock queues sender = then_some (all_hold (queues_fit t clock queues ∷ sender_fit clock (view_queues queues) (view_sender sender) ∷ [])) (frames_held (view_queues queues))

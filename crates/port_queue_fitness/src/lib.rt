@@ -1,62 +1,41 @@
 // Internal to the product: the fitness of the queues of a port record and of its sender.
 #![tactic(auto)]
 
-ghost use Rattle.std.specs.Prelude.{◌≡◌, false, ◌≤◌, ◌<◌, length};
+ghost use Rattle.std.specs.Prelude.{◌≡◌, ◌≤◌, ◌<◌, ◌^◌, length};
 ghost use Rattle.model.specs.Units.{most_frames};
 ghost use Rattle.model.specs.Table.{table_refusal};
 ghost use Rattle.table.specs.View.{view_table};
 ghost use Rattle.table_lookup.specs.Places.{Rising, Found};
 ghost use Rattle.port_queue_fitness.specs.Queues.{load_fits, queues_fitness};
 
-use numbers::{u16_as_u64, u32_as_u64};
-use port_scheduler::{Queue, Sender};
+use port_scheduler::{Queue, Sending};
 use table::Table;
-use table_lookup::Place;
 use units::MOST_FRAMES;
 
-// Whether what was tested fits, and, if so, how many frames are held; else 0.
-#[derive(Clone, Copy)]
-pub struct Fitness {
-    pub fits: bool,
-    pub frames: u64,
-}
-
-pub fn unfit() -> Fitness
-    ensures { result ≡ record { fits = false; frames = 0 } }
-{
-    Fitness {
-        fits: false,
-        frames: 0,
-    }
-}
-
 // Guesses at the places of the first count numbers, by their last ten bits.
-// A guess may be wrong: `place_near` tests it.
+// A guess may be wrong: `place_near` tests it. A fixed array, and no map: the project's rule, no heap.
 fn guesses_of(numbers: &[u16; 256], count: u16) -> [u8; 1024]
     requires { count ≤ 256 }
 {
     let mut guesses = [0u8; 1024];
-    let n = count as usize;
-    let mut i: usize = 0;
-    while i < n {
-        guesses[(numbers[i] % 1024) as usize] = i as u8;
-        i += 1;
+    for i in 0..usize::from(count) {
+        guesses[usize::from(numbers[i] % 1024)] = i as u8;
     }
     guesses
 }
 
 // The place of a number, which is often the guess.
-fn place_near(numbers: &[u16; 256], count: u16, number: u16, guess: u8) -> Place
-    requires { (0 < count) × (count ≤ length numbers.now) × Rising numbers.now count }
+fn place_near(numbers: &[u16; 256], count: u16, number: u16, guess: u8) -> Option<usize>
+    requires { (count ≤ length numbers.now) × Rising numbers.now count }
     ensures { Found numbers.now count number result }
 {
-    if (guess as u16) < count {
-        let i = guess as usize;
+    if u16::from(guess) < count {
+        let i = usize::from(guess);
         if numbers[i] == number {
-            return Place::At(i);
+            return Some(i);
         }
     }
-    table_lookup::place_of(numbers, count, u16_as_u64(number))
+    table_lookup::place_of(numbers, count, u64::from(number))
 }
 
 // Of one queue: its frames, each of which names a link and fits it, and its held sum.
@@ -64,68 +43,60 @@ fn load_fits(t: Table, guesses: &[u8; 1024], q: Queue, priority: u8, clock: u64)
     requires { (table_refusal (view_table t) ≡ 0) × (q.count ≤ most_frames) }
     ensures { result ≡ load_fits t clock priority q }
 {
-    let count = t.count;
-    let n = q.count as usize;
     let mut low: u64 = 0;
-    let mut sum: u64 = 0;
-    let mut i: usize = 0;
-    while i < n {
+    for i in 0..usize::from(q.count) {
         let f = q.frames[i];
-        let guess = guesses[(f.number % 1024) as usize];
-        let place = place_near(&t.numbers, count, f.number, guess);
-        let Place::At(k) = place else {
+        let guess = guesses[usize::from(f.number % 1024)];
+        let place = place_near(&t.numbers, t.count, f.number, guess);
+        let Some(k) = place else {
             return false;
         };
-        let link = t.links[k];
-        if !port_fitness::frame_fits(link, f, priority, low, clock) {
+        if !port_fitness::frame_fits(t.links[k], f, priority, low, clock) {
             return false;
         }
         low = f.arrival;
-        let wire = u16_as_u64(f.length);
-        let kept = units::occupancy(wire);
-        sum += kept;
-        i += 1;
     }
-    sum <= u32_as_u64(q.mark)
+    port_scheduler::held(q) <= u64::from(q.mark)
 }
 
-// Counts, frames, held sums and marks, and the frame being sent. An empty queue is not read: reading one is a copy.
-pub fn queues_fit(t: Table, queues: [Queue; 8], sender: Sender, clock: u64) -> Fitness
+fn count_of(q: &Queue) -> u64
+    ensures { (result ≡ q.now.count) × (result < 2 ^ 16) }
+{
+    u64::from(q.count)
+}
+
+// Counts, frames, held sums and marks, and the frame being sent: the frames held, if all of it fits.
+// An empty queue is not read: reading one is a copy.
+pub fn queues_fit(t: Table, queues: [Queue; 8], sender: Option<Sending>, clock: u64) -> Option<u64>
     requires { table_refusal (view_table t) ≡ 0 }
     ensures { result ≡ queues_fitness t clock queues sender }
 {
     let mut guesses = [0u8; 1024];
     let mut frames: u64 = 0;
-    let mut i: usize = 0;
-    while i < 8 {
+    for i in 0..8 {
         if queues[i].count != 0 {
             if frames == 0 {
-                let made = guesses_of(&t.numbers, t.count);
-                guesses = made;
+                guesses = guesses_of(&t.numbers, t.count);
             }
             let q = queues[i];
             if (MOST_FRAMES as u16) < q.count {
-                return unfit();
+                return None;
             }
             if !load_fits(t, &guesses, q, i as u8, clock) {
-                return unfit();
+                return None;
             }
         }
         if t.sizes[i] < queues[i].mark {
-            return unfit();
+            return None;
         }
-        frames += u16_as_u64(queues[i].count);
-        i += 1;
+        frames += count_of(&queues[i]);
     }
-    let Sender::Sending(p, start) = sender else {
-        return Fitness { fits: true, frames };
+    let Some(sending) = sender else {
+        return Some(frames);
     };
-    if 8 <= p {
-        return unfit();
+    if 8 <= sending.priority {
+        return None;
     }
-    let head = queues[p as usize];
-    if !port_fitness::head_fits(head, start, clock) {
-        return unfit();
-    }
-    Fitness { fits: true, frames }
+    let head = queues[usize::from(sending.priority)];
+    port_fitness::head_fits(head, sending.start, clock).then_some(frames)
 }

@@ -1,30 +1,32 @@
 -- The model's fitness of a port record, by the conditions that the code tests one after the other.
-use mathlib.Core.Path.{◌≡◌, sym, ap, ◌∙◌}
+use mathlib.Core.Path.{◌≡◌, refl, sym, ap, ◌∙◌}
 use mathlib.Core.Bool.{Bool, true, false, and-true}
 use mathlib.Core.List.{List, [], ◌∷◌}
 use Prim.Native.Nat.{ℕ}
+use native.Mathlib.Omega.{arith}
+use Rattle.std.specs.Prelude.{Option, Some, None}
+use Rattle.std.specs.Bool.{then_some}
 use lib.Dec.{leb}
 use borrow.Author.Tests.{eq-eqb, eqb-true, ne_eqb}
 use lib.ListN.{length, get_or}
-use Rattle.model.specs.Basics.{provided, all_to, all_hold}
+use Rattle.model.specs.Basics.{all_to, all_hold}
 use Rattle.model.specs.Units.{last_tick, most_frames, full_count}
 use Rattle.model.specs.Table.{table_refusal}
 use Rattle.model.specs.Machine.{queue_of, held, frames_held}
 use Rattle.model.specs.Counters.{every_count}
 use Rattle.model.specs.Fitness.{frames_fit, sender_fit, fit}
-use Rattle.model.proofs.Checks.{AllTrue, all_true, true_all}
+use Rattle.model.proofs.Checks.{all_true, true_all}
 use Rattle.table.specs.declared.Table.{Table as TableRecord}
 use Rattle.table.specs.View.{view_table}
 use Rattle.table.proofs.Shape.{count_shown}
 use Rattle.port_policing.specs.declared.Gate.{Gate as GateRecord}
 use Rattle.port_scheduler.specs.declared.Queue.{Queue}
-use Rattle.port_scheduler.specs.declared.Sender.{Sender as SenderRecord}
+use Rattle.port_scheduler.specs.declared.Sending.{Sending}
 use Rattle.port_scheduler.specs.View.{view_queues, view_marks, view_sender}
 use Rattle.counters.specs.View.{view_counts}
 use Rattle.port_fitness.specs.Conditions.{lines_fit, ticks_fit, credits_fit}
 use Rattle.port_fitness.proofs.All.{same_truth, all_four, any_false}
-use Rattle.port_queue_fitness.specs.declared.Fitness.{Fitness}
-use Rattle.port_queue_fitness.specs.Queues.{queues_fit, fitness_if, queues_fitness}
+use Rattle.port_queue_fitness.specs.Queues.{queues_fit, queues_fitness}
 use Rattle.port_record_fitness.specs.View.{view_parts}
 use Rattle.port_record_fitness.specs.Fitness.{table_fits, port_fitness}
 
@@ -82,8 +84,17 @@ module _ (refused clock : ℕ) where
   pub table_passes : table_fits refused clock ≡ true → refused ≡ 0
   table_passes e = eqb-true refused 0 (all_true _ e).0
 
+-- ---- what a told test is
+none_fails : (b : Bool) (n : ℕ) → None ≡ then_some b n → b ≡ false
+none_fails true n e = absurd (let y : ◌≡◌ {A = ℕ} 0 1 = cc in omega arith)
+none_fails false n e = refl
+
+some_passes : (b : Bool) (n m : ℕ) → Some m ≡ then_some b n → (b ≡ true) × (m ≡ n)
+some_passes true n m e = (refl, cc)
+some_passes false n m e = absurd (let y : ◌≡◌ {A = ℕ} 0 1 = cc in omega arith)
+
 -- ---- the whole
-module _ (t : TableRecord) (clock : ℕ) (queues : List Queue) (sender : SenderRecord) (gate : GateRecord) (counts : List ℕ) (unknown : ℕ) where
+module _ (t : TableRecord) (clock : ℕ) (queues : List Queue) (sender : Option Sending) (gate : GateRecord) (counts : List ℕ) (unknown : ℕ) where
   abbrev fits : Bool
   fits = fit (view_table t) (view_parts t clock queues sender gate counts unknown)
 
@@ -101,10 +112,18 @@ module _ (t : TableRecord) (clock : ℕ) (queues : List Queue) (sender : SenderR
   fit_shown = rw (count_shown t) (grouped _ _ _ _ _ _ _ _ _ _ _ _ (queues_parts t clock queues))
 
   -- the i-th condition fails
-  pub is_unfit : (i : ℕ) {r : Fitness} → r ≡ record { fits = false; frames = 0 } → get_or conditions i true ≡ false → r ≡ port_fitness t clock queues sender gate counts unknown
-  unfolding provided
-  is_unfit i e x = e ∙ ap (λ (b : Bool). fitness_if b (frames_held (view_queues queues))) (any_false conditions i x ∙ sym fit_shown)
+  pub is_unfit : (i : ℕ) → get_or conditions i true ≡ false → None ≡ port_fitness t clock queues sender gate counts unknown
+  is_unfit i x = ap (λ (b : Bool). then_some b (frames_held (view_queues queues))) (any_false conditions i x ∙ sym fit_shown)
 
-  -- all hold, that on the queues as it was told
-  pub is_fit : {q : Fitness} → q ≡ queues_fitness t clock queues sender → AllTrue conditions → q ≡ port_fitness t clock queues sender gate counts unknown
-  is_fit told all = told ∙ ap (λ (b : Bool). fitness_if b (frames_held (view_queues queues))) (all.1.1.0 ∙ sym (fit_shown ∙ true_all conditions all))
+  -- that on the queues fails, as it was told
+  pub queues_unfit : None ≡ queues_fitness t clock queues sender → None ≡ port_fitness t clock queues sender gate counts unknown
+  queues_unfit told = is_unfit 2 (none_fails (get_or conditions 2 true) (frames_held (view_queues queues)) told)
+
+  -- all before the last hold, that on the queues as it was told; and the last
+  module _ {frames : ℕ} (told : Some frames ≡ queues_fitness t clock queues sender)
+      (a : get_or conditions 0 true ≡ true) (b : get_or conditions 1 true ≡ true) (c : get_or conditions 3 true ≡ true) where
+    pub by_last : (x : Bool) → get_or conditions 4 true ≡ x → then_some x frames ≡ port_fitness t clock queues sender gate counts unknown
+    by_last false e = is_unfit 4 e
+    by_last true e =
+        let q = some_passes (get_or conditions 2 true) (frames_held (view_queues queues)) frames told in
+        rw (fit_shown ∙ true_all conditions (a, (b, (q.0, (c, (e, tt))))), q.1)

@@ -1,5 +1,5 @@
 -- The fitness of a whole port record.
-use Rattle.std.specs.Prelude.{Bool, List, [], ◌∷◌, ℕ, eqb, leb}
+use Rattle.std.specs.Prelude.{Option, Bool, List, [], ◌∷◌, ℕ, eqb, leb}
 use Rattle.model.specs.Basics.{all_hold}
 use Rattle.model.specs.Units.{last_tick}
 use Rattle.model.specs.Machine.{frames_held}
@@ -8,17 +8,16 @@ use Rattle.table.specs.declared.Table.{Table as TableRecord}
 use Rattle.table.specs.View.{view_table}
 use Rattle.port_policing.specs.declared.Gate.{Gate as GateRecord}
 use Rattle.port_scheduler.specs.declared.Queue.{Queue}
-use Rattle.port_scheduler.specs.declared.Sender.{Sender as SenderRecord}
+use Rattle.port_scheduler.specs.declared.Sending.{Sending}
 use Rattle.port_scheduler.specs.View.{view_queues}
-use Rattle.port_queue_fitness.specs.declared.Fitness.{Fitness}
-use Rattle.port_queue_fitness.specs.Queues.{fitness_if}
+use Rattle.std.specs.Bool.{then_some}
 use Rattle.port_record_fitness.specs.View.{view_parts}
 
 -- "its table passes 3 to 6; clock ≤ 2^48 − 1", by the refusal of the table, 23 among them
 abbrev pub table_fits : ℕ → ℕ → Bool
 table_fits refused clock = all_hold (eqb refused 0 ∷ leb clock last_tick ∷ [])
 
--- whether the record of these parts is fit, and the frames held if so, else 0
-abbrev pub port_fitness : TableRecord → ℕ → List Queue → SenderRecord → GateRecord → List ℕ → ℕ → Fitness
+-- the frames that the record of these parts holds, if it is fit
+abbrev pub port_fitness : TableRecord → ℕ → List Queue → Option Sending → GateRecord → List ℕ → ℕ → Option ℕ
 port_fitness t clock queues sender gate counts unknown =
-    fitness_if (fit (view_table t) (view_parts t clock queues sender gate counts unknown)) (frames_held (view_queues queues))
+    then_some (fit (view_table t) (view_parts t clock queues sender gate counts unknown)) (frames_held (view_queues queues))

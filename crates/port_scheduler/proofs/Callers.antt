@@ -1,4 +1,5 @@
 -- For callers: what fitness tells of what an advance asks, and a frame queued among the eight.
+use Rattle.std.specs.Prelude.{Option}
 use mathlib.Core.Path.{◌≡◌}
 use mathlib.Core.List.{List}
 use Prim.Native.Nat.{ℕ, ◌*◌, ◌≤◌, ◌<◌}
@@ -13,7 +14,7 @@ use Rattle.model.proofs.Lined.{lined_meets}
 use Rattle.model.proofs.Fitness.{FitPort}
 use Rattle.port_scheduler.specs.declared.Frame.{Frame as FrameRecord}
 use Rattle.port_scheduler.specs.declared.Queue.{Queue}
-use Rattle.port_scheduler.specs.declared.Sender.{Sender as SenderRecord}
+use Rattle.port_scheduler.specs.declared.Sending.{Sending}
 use Rattle.port_scheduler.specs.View.{view_frame, blank_queue, view_queues, view_sender}
 use Rattle.port_scheduler.specs.Promised.{Pushed, Ready}
 use Rattle.port_scheduler.proofs.Shown.{queue_shown, queues_set}
@@ -23,7 +24,7 @@ pub fit_positive : (t : Table) (port : Port) → FitPort t port → (p : ℕ) �
 fit_positive t port k p h = each_map (λ (f : Frame) m. m.positive) (lined_meets t p port.scheduler.clock 0 (queue_of port.scheduler.queues p) k.table (k.lined p h))
 
 -- the port's fitness, its tick tests and refusal 16 are what an advance asks
-pub fit_ready : (t : Table) (port : Port) {qs : List Queue} {s : SenderRecord} {clock time len : ℕ} → FitPort t port → port.scheduler ≡ at clock (view_queues qs) (view_sender s) →
+pub fit_ready : (t : Table) (port : Port) {qs : List Queue} {s : Option Sending} {clock time len : ℕ} → FitPort t port → port.scheduler ≡ at clock (view_queues qs) (view_sender s) →
     clock ≤ time → time ≤ last_tick → 3 * frames_held (view_queues qs) ≤ len → Ready qs s clock time len
 fit_ready t port {qs} {s} {clock} {time} {len} k e later early room =
     record {

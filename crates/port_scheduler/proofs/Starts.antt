@@ -1,18 +1,22 @@
 -- Who sends from a tick on, case by case.
-use mathlib.Core.Path.{◌≡◌, refl, ◌∙◌}
+use Rattle.std.specs.Prelude.{Option as OptionOf, Some, None, Bool, true, false, is_some, ◌⊎◌}
+use Rattle.std.specs.List.{AllWithin, HoldsAt}
+use Rattle.std.proofs.lemmas.Bool.{false≢true}
+use mathlib.Core.Logic.{inl, inr}
+use mathlib.Core.Path.{◌≡◌, refl, sym, ◌∙◌}
 use mathlib.Core.Option.{Option, none, some}
 use mathlib.Core.List.{List, [], ◌∷◌}
-use Prim.Native.Nat.{ℕ, zero, suc, ◌+◌, ◌≤◌, ◌<◌}
+use Prim.Native.Nat.{ℕ, zero, suc, ◌≤◌, ◌<◌}
 use native.Mathlib.Nat.{le_refl}
-use native.Mathlib.Decide.{ℕ_discrete}
 use native.Mathlib.Omega.{arith}
-use lib.ListN.{length, get_or}
+use lib.ListN.{length}
 use Rattle.model.specs.Basics.{further}
 use Rattle.model.specs.Machine.{Frame, Sender, idle, sending, queue_of, highest_waiting, start_if_any}
 use Rattle.model.proofs.Queues.{waiting_some, each_head}
 use Rattle.model.proofs.FrameByFrame.{nothing_waits, time_up, starting}
 use Rattle.port_scheduler.specs.declared.Queue.{Queue}
-use Rattle.port_scheduler.specs.View.{blank_queue, view_queues}
+use Rattle.port_scheduler.specs.declared.Sending.{Sending}
+use Rattle.port_scheduler.specs.View.{blank_queue, view_queues, view_sender}
 use Rattle.port_scheduler.specs.Sending.{Sends, Positive, GoesOn}
 use Rattle.port_scheduler.proofs.Shown.{length_shown, queue_count}
 
@@ -52,6 +56,12 @@ module _ (qs : List (List Frame)) (m t : ℕ) where
   pub time_over : {s : Sender} → s ≡ idle → t ≤ m → m ≤ t → GoesOn qs s m t idle
   time_over e h k = let g : m ≡ t = omega arith in record { same = rw e; sends = tt; over = λ i. rw g (time_up t qs idle) }
 
+  -- nobody starts: one sends, or time is up
+  pub no_start : (s : OptionOf Sending) {b : Bool} → b ≡ is_some s → ((b ≡ true) ⊎ ((b ≡ false) × (t ≤ m))) → Sends qs (view_sender s) m → m ≤ t → GoesOn qs (view_sender s) m t (view_sender s)
+  no_start (Some s) e o x k = stays s.priority s.start refl x
+  no_start None e (inl b) x k = absurd (false≢true (sym e ∙ b))
+  no_start None e (inr o) x k = time_over refl o.1 k
+
   nobody : highest_waiting qs ≡ none → m ≤ t → GoesOn qs idle m t idle
   nobody e h = record { same = refl; sends = tt; over = λ i. nothing_waits t m qs e h }
 
@@ -72,17 +82,19 @@ module _ (qs : List (List Frame)) (m t : ℕ) where
   pub starts : {s r : Sender} → s ≡ idle → r ≡ start_if_any m (highest_waiting qs) → length qs ≡ 8 → Positive qs → m < t → GoesOn qs s m t r
   starts e x n k h = rw (e, x) (starts_any (highest_waiting qs) refl n k h)
 
+  -- nobody sends, and whoever waits starts
+  pub starts_if : (s : OptionOf Sending) → is_some s ≡ false → {r : Sender} → r ≡ start_if_any m (highest_waiting qs) → length qs ≡ 8 → Positive qs → m < t → GoesOn qs (view_sender s) m t r
+  starts_if None e x n k h = starts refl x n k h
+  starts_if (Some s) e x n k h = absurd (false≢true (sym e))
+
 -- ---- the search for it
-module _ (qs : List Queue) (i : ℕ) (before : (j : ℕ) → j < i → length (queue_of (view_queues qs) j) ≡ 0) where
-  pub none_more : (get_or qs i blank_queue).count ≡ 0 → (j : ℕ) → j < i + 1 → length (queue_of (view_queues qs) j) ≡ 0
-  none_more e j h = go (ℕ_discrete j i)
-    where
-      go : Dec (j ≡ i) → length (queue_of (view_queues qs) j) ≡ 0
-      go (yes x) = rw x (queue_count qs i ∙ e)
-      go (no n) = before j (omega arith)
+module _ (qs : List Queue) (m : ℕ) where
+  pub starts_here : (i : ℕ) → (i < length qs) × HoldsAt (λ (q : Queue). 0 < q.count) qs i × AllWithin (λ (q : Queue). q.count ≡ 0) qs 0 i → sending i m ≡ start_if_any m (highest_waiting (view_queues qs))
+  starts_here i h =
+      starts_at m (view_queues qs)
+      (waits_at (view_queues qs) i (rw length_shown h.0) (λ j k. queue_count qs j ∙ h.2 j blank_queue (omega arith) k) (rw queue_count (h.1 blank_queue)))
 
-  pub starts_here : (m : ℕ) → i < length qs → 0 < (get_or qs i blank_queue).count → sending i m ≡ start_if_any m (highest_waiting (view_queues qs))
-  starts_here m h w = starts_at m (view_queues qs) (waits_at (view_queues qs) i (rw length_shown h) before (rw queue_count w))
-
-  pub starts_none : (m : ℕ) → length qs ≤ i → idle ≡ start_if_any m (highest_waiting (view_queues qs))
-  starts_none m h = starts_nowhere m (view_queues qs) (waits_nowhere (view_queues qs) (λ j k. before j (omega (arith, length_shown qs))))
+  pub starts_none : AllWithin (λ (q : Queue). q.count ≡ 0) qs 0 (length qs) → idle ≡ start_if_any m (highest_waiting (view_queues qs))
+  starts_none h =
+      starts_nowhere m (view_queues qs)
+      (waits_nowhere (view_queues qs) (λ j k. queue_count qs j ∙ h j blank_queue (omega arith) (rw length_shown at k)))

@@ -1,6 +1,8 @@
 -- Sums over a queue and over the queues, element by element.
-use mathlib.Core.Path.{◌≡◌, refl}
-use mathlib.Core.List.{List, [], ◌∷◌, ◌++◌, map, map-append}
+use Rattle.std.specs.List.{sum_by}
+use Rattle.std.proofs.lemmas.List.Recursion.{is_sum_by}
+use mathlib.Core.Path.{◌≡◌, refl, sym, ap}
+use mathlib.Core.List.{List, [], ◌∷◌, ◌++◌, map}
 use Prim.Native.Nat.{ℕ, zero, suc, ◌+◌, ◌*◌, ◌≤◌, ◌<◌}
 use native.Mathlib.Numerals.{add-one}
 use native.Mathlib.Omega.{arith}
@@ -8,28 +10,21 @@ use lib.ListN.{length, get_or, take, length-append}
 use lib.Seq.{take-suc, take_all}
 use Rattle.model.specs.Units.{occupied}
 use Rattle.model.specs.Machine.{Frame, queue_of, queued_last, without_head, bytes, held, frames_held}
-use Rattle.model.proofs.Queues.{bytes_snoc}
 use Rattle.port_scheduler.specs.declared.Frame.{Frame as FrameRecord}
 use Rattle.port_scheduler.specs.declared.Queue.{Queue}
 use Rattle.port_scheduler.specs.View.{view_frame, blank_entry, blank_queue, view_queue, view_queues}
-use Rattle.port_scheduler.proofs.Shown.{entries_take, length_shown, queue_count}
+use Rattle.port_scheduler.proofs.Shown.{entries_take, length_shown, count_shown, queue_count}
 
--- ---- the bytes of the first i frames
-abbrev pub bytes_before : ℕ → List FrameRecord → ℕ
-bytes_before i frames = held (map view_frame (take i frames))
+-- ---- what the code's chains add up
+pub bytes_shown : (q : Queue) → q.count ≤ length q.frames → sum_by (λ (f : FrameRecord). occupied f.length) (take q.count q.frames) ≡ held (view_queue q)
+unfolding view_queue bytes
+bytes_shown q h =
+    rw (entries_take blank_entry q.count q.frames h)
+    (sym (is_sum_by (λ (l : List FrameRecord). held (map view_frame l)) (λ (f : FrameRecord). occupied f.length) refl (λ _ _. refl) (take q.count q.frames)))
 
-pub bytes_none_lem : (frames : List FrameRecord) → 0 ≡ bytes_before 0 frames
-unfolding bytes
-bytes_none_lem frames = refl
-
-pub bytes_more : (frames : List FrameRecord) (i : ℕ) → i < length frames → bytes_before (i + 1) frames ≡ bytes_before i frames + occupied (get_or frames i blank_entry).length
-bytes_more frames i h =
-    rw (add-one, take-suc frames i blank_entry h, map-append view_frame (take i frames) (get_or frames i blank_entry ∷ []))
-    (bytes_snoc occupied (map view_frame (take i frames)) (view_frame (get_or frames i blank_entry)))
-
-pub bytes_all : (q : Queue) (i : ℕ) → q.count ≤ length q.frames → i ≡ q.count → bytes_before i q.frames ≡ held (view_queue q)
-unfolding view_queue
-bytes_all q i h e = rw (e, entries_take blank_entry q.count q.frames h)
+pub frames_shown : (qs : List Queue) → sum_by (λ (q : Queue). q.count) qs ≡ frames_held (view_queues qs)
+unfolding view_queues frames_held
+frames_shown qs = sym (is_sum_by (λ (l : List Queue). frames_held (map view_queue l)) (λ (q : Queue). q.count) refl (λ q l. ap (λ (n : ℕ). n + frames_held (map view_queue l)) (count_shown q)) qs)
 
 -- ---- the frames of the first i queues
 frames_append : (a b : List (List Frame)) → frames_held (a ++ b) ≡ frames_held a + frames_held b

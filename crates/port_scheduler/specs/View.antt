@@ -1,11 +1,10 @@
 -- The records of the code and what they are in the model: frames, queues, the sender.
-use Rattle.std.specs.Prelude.{List, [], map, ℕ}
+use Rattle.std.specs.Prelude.{List, [], map, ℕ, Option, Some, None}
 use Rattle.model.specs.Basics.{entries}
 use Rattle.model.specs.Machine.{Frame, Sender, idle, sending}
 use Rattle.port_scheduler.specs.declared.Frame.{Frame as FrameRecord}
 use Rattle.port_scheduler.specs.declared.Queue.{Queue}
-use Rattle.port_scheduler.specs.declared.Sender.{Sender as SenderRecord}
-use Rattle.port_scheduler.specs.declared.Sender.TheVariants.{Idle, Sending}
+use Rattle.port_scheduler.specs.declared.Sending.{Sending}
 
 abbrev pub view_frame : FrameRecord → Frame
 view_frame f = record { number = f.number; length = f.length; arrival = f.arrival }
@@ -27,7 +26,7 @@ view_queues queues = map view_queue queues
 abbrev pub view_marks : List Queue → List ℕ
 view_marks queues = map (λ (q : Queue). q.mark) queues
 
--- each case of the enum
-abbrev pub view_sender : SenderRecord → Sender
-view_sender Idle = idle
-view_sender (Sending priority start) = sending priority start
+-- none sends, or one does
+abbrev pub view_sender : Option Sending → Sender
+view_sender None = idle
+view_sender (Some s) = sending s.priority s.start

@@ -5,6 +5,7 @@ use Rattle.model.specs.Machine.{held}
 use Rattle.port_scheduler.specs.declared.Frame.{Frame as FrameRecord}
 use Rattle.port_scheduler.specs.declared.Queue.{Queue}
 use Rattle.port_scheduler.specs.View.{view_frame, view_queue}
+use Rattle.port_refusals.specs.Verdicts.{verdict_of}
 use Rattle.port_storing.specs.declared.Settled.{Settled}
 
 -- "dropped (3): .. held bytes + length exceed the size", the length being what the frame occupies; "stored (0): otherwise"
@@ -31,5 +32,5 @@ pub record Roomy (q : Queue) (size : ℕ) (f : FrameRecord) : Type 0 where
   pub room : held (view_queue q) + occupied f.length ≤ size → q.count < most_frames
 
 pub record Settles (q : Queue) (size : ℕ) (f : FrameRecord) (r : Settled) : Type 0 where
-  pub verdict : r.verdict ≡ verdict_in q size f
-  pub queue : Kept r.verdict q f r.queue
+  pub verdict : verdict_of r.verdict ≡ verdict_in q size f
+  pub queue : Kept (verdict_of r.verdict) q f r.queue

@@ -6,33 +6,21 @@ ghost use Rattle.model.specs.Units.{most_frames};
 ghost use Rattle.port_scheduler.specs.Promised.{Pushed};
 ghost use Rattle.port_storing.specs.Storing.{Stored, Roomy, Settles};
 
-use numbers::{u16_as_u64, u32_as_u64};
+use port_refusals::Verdict;
 use port_scheduler::{Frame, Queue};
 
 // The verdict of a frame that passed the police check, and the queue of its link's priority after it.
 #[derive(Clone, Copy)]
 pub struct Settled {
-    pub verdict: u32,
+    pub verdict: Verdict,
     pub queue: Queue,
-}
-
-fn larger(x: u32, y: u32) -> u32
-    ensures { result ≡ max x y }
-{
-    if x < y {
-        return y;
-    }
-    x
 }
 
 // Whether so many bytes more are within the size; no sum wraps.
 fn has_room(held: u64, more: u64, size: u64) -> bool
     ensures { result ≡ leb (held + more) size }
 {
-    if size < more {
-        return false;
-    }
-    held <= size - more
+    more <= size && held <= size - more
 }
 
 // The queue with one frame more, the last.
@@ -41,9 +29,9 @@ fn pushed(q: Queue, f: Frame) -> Queue
     ensures { Pushed q f result }
 {
     let mut r = q;
-    let n = r.count as usize;
+    let n = usize::from(r.count);
     r.frames[n] = f;
-    r.count = r.count + 1;
+    r.count += 1;
     r
 }
 
@@ -54,24 +42,27 @@ fn stored(q: Queue, f: Frame, bytes: u64) -> Queue
 {
     let mut r = pushed(q, f);
     let high = bytes as u32;
-    r.mark = larger(r.mark, high);
+    r.mark = r.mark.max(high);
     r
 }
 
-// Dropped (3), or stored (0).
+// Dropped, or stored.
 pub fn settle(queue: Queue, size: u32, f: Frame) -> Settled
     requires { Roomy queue size f }
     ensures { Settles queue size f result }
 {
     let held = port_scheduler::held(queue);
-    let wire = u16_as_u64(f.length);
+    let wire = u64::from(f.length);
     let more = units::occupancy(wire);
-    if !has_room(held, more, u32_as_u64(size)) {
-        return Settled { verdict: 3, queue };
+    if !has_room(held, more, u64::from(size)) {
+        return Settled {
+            verdict: Verdict::Dropped,
+            queue,
+        };
     }
     let longer = stored(queue, f, held + more);
     Settled {
-        verdict: 0,
+        verdict: Verdict::Stored,
         queue: longer,
     }
 }

@@ -2,47 +2,20 @@
 #![tactic(auto)]
 
 ghost use Rattle.std.specs.Prelude.{◌≡◌};
-ghost use Rattle.model.specs.Fitness.{fit};
 ghost use Rattle.model.specs.Sums.{sums};
-ghost use Rattle.counter_sums.specs.View.{record_sums};
+ghost use Rattle.counter_sums.specs.View.{answered, padded};
 ghost use Rattle.port.specs.View.{view_port_table, view_port};
 
 use counter_sums::{Sums, sums_of_counts};
 use port::Port;
+use refusal::Refusal;
 
-fn is_fit(port: Port) -> bool
-    ensures { result ≡ fit (view_port_table port) (view_port port) }
+// Of any record; 10 of one that is not fit.
+pub fn sums_of(port: Port) -> Result<Sums, Refusal>
+    ensures { answered result ≡ padded (sums (view_port_table port) (view_port port)) }
 {
-    let table = port.table;
-    let queues = port.queues;
-    let sender = port.sender;
-    let gate = port.gate;
-    let counts = port.counts;
-    let checked = port_record_fitness::fit(
-        table,
-        port.clock,
-        queues,
-        sender,
-        gate,
-        &counts,
-        port.unknown,
-    );
-    checked.fits
-}
-
-// Of any record.
-pub fn sums_of(port: Port) -> Sums
-    ensures { result ≡ record_sums (sums (view_port_table port) (view_port port)) }
-{
-    if !is_fit(port) {
-        return Sums {
-            refused: 10,
-            sums: [0u64; 256],
-            has_total: false,
-            total: 0,
-        };
+    if port.frames_if_fit().is_none() {
+        return Err(Refusal::PortNotFit);
     }
-    let table = port.table;
-    let counts = port.counts;
-    sums_of_counts(&counts, port.unknown, table.count)
+    Ok(sums_of_counts(&port.counts, port.unknown, port.table.count))
 }

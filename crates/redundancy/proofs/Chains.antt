@@ -4,6 +4,7 @@ use mathlib.Core.List.{List, [], ◌∷◌}
 use Prim.Native.Nat.{ℕ}
 use Rattle.model.specs.Redundancy.{State, Presented, Entry, Selection, decide, select, entry_of, state_after, run, Refused, none_between, one_more}
 use Rattle.model.proofs.Theorems.{one_of_two, selected_always}
+use Rattle.refusal.specs.Numbers.{number_or_0}
 use Rattle.redundancy.specs.declared.State.{State as StateRecord}
 use Rattle.redundancy.specs.View.{view_state, view_selection}
 use Rattle.redundancy.specs.Calls.{entry_with, Chain, begins, goes_on, SelectedOfCalls, RefusedCalls, OneOfTwoOfCalls}
@@ -36,7 +37,7 @@ unfolding select
 refused_calls s s' calls.none_between = none_between
 refused_calls s s' (calls.one_more {s' = before} c r rest e n) =
     let state : (decide (view_state before) c).state ≡ view_state r.decision.state = sym (ap (λ (x : Selection). x.decision.state) e) in
-    let refused : (decide (view_state before) c).refused ≡ r.decision.refused = sym (ap (λ (x : Selection). x.decision.refused) e) in
+    let refused : (decide (view_state before) c).refused ≡ number_or_0 r.decision.outcome = sym (ap (λ (x : Selection). x.decision.refused) e) in
     rw (sym state) (one_more c (refused_calls s before rest) (λ z. n (sym refused ∙ z)))
 
 pub one_of_two_of_calls : OneOfTwoOfCalls

@@ -1,6 +1,7 @@
 -- The theorems of the model for the real calls: what a user of `State::fresh` and `State::select` gets.
 use Rattle.std.specs.Prelude.{◌≡◌, true, List, [], ◌∷◌, ℕ, ◌≤◌}
 use Rattle.model.specs.Redundancy.{Presented, Entry, fresh, select, hands_on, how_many, Copies, Selected}
+use Rattle.refusal.specs.Numbers.{number_or_0}
 use Rattle.redundancy.specs.declared.State.{State as StateRecord}
 use Rattle.redundancy.specs.declared.Selection.{Selection as SelectionRecord}
 use Rattle.redundancy.specs.View.{view_state, view_selection}
@@ -26,7 +27,7 @@ SelectedOfCalls = (skew : ℕ) (s : StateRecord) (log : List Entry) → Chain sk
 -- calls that were refused, each of the state that the one before handed back
 pub data RefusedCalls (s : StateRecord) : StateRecord → Type 0 where
   none_between : RefusedCalls s s
-  one_more : {s' : StateRecord} (c : Presented) (r : SelectionRecord) → RefusedCalls s s' → Answered s' c r → (r.decision.refused ≡ 0 → ⊥)
+  one_more : {s' : StateRecord} (c : Presented) (r : SelectionRecord) → RefusedCalls s s' → Answered s' c r → (number_or_0 r.decision.outcome ≡ 0 → ⊥)
       → RefusedCalls s r.decision.state
 
 -- of two calls, whatever the state record: "at most one frame, and exactly one if the first copy was handed on"

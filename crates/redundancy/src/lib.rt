@@ -2,48 +2,54 @@
 #![tactic(auto)]
 
 ghost use Rattle.std.specs.Prelude.{◌≡◌, ◌&&◌, ◌||◌, not, ◌-◌, ◌<◌, eqb, leb, length, take};
-ghost use Rattle.model.specs.Redundancy.{network_a, network_b, fresh, sequence_number, among, sound, is_new, last_after, decide_on, refused_by, decide, part_of, select};
-ghost use Rattle.redundancy.specs.View.{view_received, view_handed_on, view_state, view_decision, view_selection, presented, frames};
+ghost use Rattle.model.specs.Redundancy.{fresh, sequence_number, among, sound, is_new, received_on, decide_on, refused_by, decide, part_of, select};
+ghost use Rattle.refusal.specs.Numbers.{number_of};
+ghost use Rattle.redundancy.specs.View.{view_received, view_handed_on, view_network, view_state, view_decision, view_selection, presented, frames};
 
-use numbers::{excess, u8_as_u16};
+use refusal::Refusal;
 
-// The number last received on a network.
+// A waiting frame, empty where there is none, and its arrival tick.
 #[derive(Clone, Copy)]
-pub enum Received {
-    Nothing,
-    Number(u8),
+pub struct Waiting<'a> {
+    pub frame: &'a [u8],
+    pub tick: u64,
 }
 
-// What was handed on last: its number and its tick.
-#[derive(Clone, Copy)]
-pub enum HandedOn {
-    Nothing,
-    Frame(u8, u64),
+// A frame by its number and its tick.
+#[derive(Clone, Copy, Debug, PartialEq, Eq)]
+pub struct Numbered {
+    pub number: u8,
+    pub tick: u64,
 }
 
 // Where a frame was taken from.
-#[derive(Clone, Copy)]
+#[derive(Clone, Copy, Debug, PartialEq, Eq)]
 pub enum Network {
-    Neither,
     A,
     B,
 }
 
-#[derive(Clone, Copy)]
+// The number last received on each network, and what was handed on last, if there was any.
+#[derive(Clone, Copy, Debug, PartialEq, Eq)]
 pub struct State {
     pub skew: u64,
-    pub on_a: Received,
-    pub on_b: Received,
-    pub last: HandedOn,
+    pub on_a: Option<u8>,
+    pub on_b: Option<u8>,
+    pub last: Option<Numbered>,
     pub taken: u64,
 }
 
-// 0 or the refusal, what was taken and whether it was handed on, and the new state.
-#[derive(Clone, Copy)]
-pub struct Decision {
-    pub refused: u8,
+// What was taken, and whether it was handed on.
+#[derive(Clone, Copy, Debug, PartialEq, Eq)]
+pub struct Taken {
     pub network: Network,
     pub handed_on: bool,
+}
+
+// What was taken, or the refusal, and the new state.
+#[derive(Clone, Copy, Debug, PartialEq, Eq)]
+pub struct Decision {
+    pub outcome: Result<Taken, Refusal>,
     pub state: State,
 }
 
@@ -62,165 +68,65 @@ fn is_among(many: u16, before: u8, number: u8) -> bool
     if number == 0 {
         return false;
     }
-    let ahead = (u8_as_u16(number) + 255 - u8_as_u16(before)) % 255;
-    if ahead == 0 {
-        return false;
-    }
-    ahead <= many
+    let ahead = (u16::from(number) + 255 - u16::from(before)) % 255;
+    ahead != 0 && ahead <= many
 }
 
-fn is_sound(previous: Received, number: u8) -> bool
+fn is_sound(previous: Option<u8>, number: u8) -> bool
     ensures { result ≡ sound (view_received previous) number }
 {
     match previous {
-        Received::Nothing => true,
-        Received::Number(before) => {
-            if number == 0 {
-                return true;
-            }
-            is_among(2, before, number)
-        }
+        None => true, // the first there
+        Some(before) => number == 0 || is_among(2, before, number),
     }
 }
 
 // The age is a difference, so that no sum of ticks can wrap.
-fn is_new(skew: u64, last: HandedOn, number: u8, tick: u64) -> bool
-    ensures { result ≡ is_new skew (view_handed_on last) number tick }
+fn is_new(skew: u64, last: Option<Numbered>, frame: Numbered) -> bool
+    ensures { result ≡ is_new skew (view_handed_on last) frame.number frame.tick }
 {
     match last {
-        HandedOn::Nothing => true,
-        HandedOn::Frame(before, at) => {
-            if skew < excess(tick, at) {
+        None => true, // the first handed on
+        Some(before) => {
+            if skew < frame.tick.saturating_sub(before.tick) {
                 return true;
             }
-            if number == 0 {
-                return before != 0;
+            if frame.number == 0 {
+                return before.number != 0;
             }
-            is_among(127, before, number)
+            is_among(127, before.number, frame.number)
         }
     }
 }
 
-// Whether a frame goes on, by the number received before it on its network and what was handed on last.
-fn goes_on(previous: Received, skew: u64, last: HandedOn, number: u8, tick: u64) -> bool
-    ensures { result ≡ (sound (view_received previous) number && is_new skew (view_handed_on last) number tick) }
+// The last byte of a frame is its number; that of none is 0.
+fn with_number(w: Waiting<'_>) -> Numbered
+    ensures { (result.number ≡ sequence_number w.entry.frame.now) × (result.tick ≡ w.entry.tick) }
 {
-    if is_sound(previous, number) {
-        return is_new(skew, last, number, tick);
+    Numbered {
+        number: w.frame.last().copied().unwrap_or(0),
+        tick: w.tick,
     }
-    false
-}
-
-// What was handed on last, once a frame was taken.
-fn last_after(before: HandedOn, handed_on: bool, number: u8, tick: u64) -> HandedOn
-    ensures { view_handed_on result ≡ last_after (view_handed_on before) handed_on number tick }
-{
-    if handed_on {
-        return HandedOn::Frame(number, tick);
-    }
-    before
-}
-
-// A frame taken from A.
-fn decide_a(s: State, number: u8, tick: u64) -> Decision
-    ensures { view_decision result ≡ decide_on (view_state s) network_a number tick }
-{
-    let previous = s.on_a;
-    let on_b = s.on_b;
-    let before = s.last;
-    let handed_on = goes_on(previous, s.skew, before, number, tick);
-    let last = last_after(before, handed_on, number, tick);
-    let state = State {
-        skew: s.skew,
-        on_a: Received::Number(number),
-        on_b,
-        last,
-        taken: tick,
-    };
-    Decision {
-        refused: 0,
-        network: Network::A,
-        handed_on,
-        state,
-    }
-}
-
-// A frame taken from B.
-fn decide_b(s: State, number: u8, tick: u64) -> Decision
-    ensures { view_decision result ≡ decide_on (view_state s) network_b number tick }
-{
-    let previous = s.on_b;
-    let on_a = s.on_a;
-    let before = s.last;
-    let handed_on = goes_on(previous, s.skew, before, number, tick);
-    let last = last_after(before, handed_on, number, tick);
-    let state = State {
-        skew: s.skew,
-        on_a,
-        on_b: Received::Number(number),
-        last,
-        taken: tick,
-    };
-    Decision {
-        refused: 0,
-        network: Network::B,
-        handed_on,
-        state,
-    }
-}
-
-fn refusal(refused: u8, s: State) -> Decision
-    ensures { view_decision result ≡ refused_by refused (view_state s) }
-{
-    Decision {
-        refused,
-        network: Network::Neither,
-        handed_on: false,
-        state: s,
-    }
-}
-
-fn last_byte(frame: &[u8]) -> u8
-    ensures { result ≡ sequence_number frame.now }
-{
-    let n = frame.len();
-    if n == 0 {
-        return 0;
-    }
-    frame[n - 1]
 }
 
 // A frame without its last byte; an empty one as it is.
 fn without_last<'a>(frame: &'a [u8]) -> &'a [u8]
     ensures { result.now ≡ take (length frame.now - 1) frame.now }
 {
-    let n = frame.len();
-    if n == 0 {
-        return frame;
-    }
-    &frame[..n - 1]
+    &frame[..frame.len().saturating_sub(1)]
 }
 
-// Whether A's frame is taken, by the lengths and ticks of the two.
-fn is_a_taken(a: usize, at_a: u64, b: usize, at_b: u64) -> bool
-    ensures { result ≡ (eqb b 0 || not (eqb a 0) && leb at_a at_b) }
+// Whether A's frame is taken.
+fn is_a_taken(a: Waiting<'_>, b: Waiting<'_>) -> bool
+    ensures { result ≡ (eqb (length b.entry.frame.now) 0 || not (eqb (length a.entry.frame.now) 0) && leb a.entry.tick b.entry.tick) }
 {
-    if b == 0 {
-        return true;
-    }
-    if a == 0 {
-        return false;
-    }
-    at_a <= at_b
+    b.frame.is_empty() || (!a.frame.is_empty() && a.tick <= b.tick)
 }
 
-fn are_empty(a: usize, b: usize) -> bool
-    ensures { result ≡ (eqb a 0 && eqb b 0) }
+fn are_empty(a: Waiting<'_>, b: Waiting<'_>) -> bool
+    ensures { result ≡ (eqb (length a.entry.frame.now) 0 && eqb (length b.entry.frame.now) 0) }
 {
-    if a == 0 {
-        return b == 0;
-    }
-    false
+    a.frame.is_empty() && b.frame.is_empty()
 }
 
 impl State {
@@ -229,38 +135,80 @@ impl State {
     {
         State {
             skew,
-            on_a: Received::Nothing,
-            on_b: Received::Nothing,
-            last: HandedOn::Nothing,
+            on_a: None,
+            on_b: None,
+            last: None,
             taken: 0,
         }
     }
 
     // The decision by itself: which frame is taken, and whether it is handed on.
-    pub fn decide<'a>(self, a: &'a [u8], at_a: u64, b: &'a [u8], at_b: u64) -> Decision
-        ensures { view_decision result ≡ decide (view_state self) (presented a.now at_a b.now at_b) }
+    pub fn decide(self, a: Waiting<'_>, b: Waiting<'_>) -> Decision
+        ensures { view_decision result ≡ decide (view_state self) (presented a.entry b.entry) }
     {
-        if are_empty(a.len(), b.len()) {
-            return refusal(17, self);
+        if are_empty(a, b) {
+            return self.refused(Refusal::BothEmpty);
         }
-        if is_a_taken(a.len(), at_a, b.len(), at_b) {
-            if at_a < self.taken {
-                return refusal(18, self);
-            }
-            return decide_a(self, last_byte(a), at_a);
+        let (network, earlier) = if is_a_taken(a, b) {
+            (Network::A, a)
+        } else {
+            (Network::B, b)
+        };
+        if earlier.tick < self.taken {
+            return self.refused(Refusal::BeforeLastTaken);
         }
-        if at_b < self.taken {
-            return refusal(18, self);
+        self.taken(network, with_number(earlier))
+    }
+
+    fn refused(self, refusal: Refusal) -> Decision
+        ensures { view_decision result ≡ refused_by (number_of refusal) (view_state self) }
+    {
+        Decision {
+            outcome: Err(refusal),
+            state: self,
         }
-        decide_b(self, last_byte(b), at_b)
+    }
+
+    // A frame taken from a network.
+    fn taken(self, network: Network, frame: Numbered) -> Decision
+        ensures { view_decision result ≡ decide_on (view_state self) (view_network network) frame.number frame.tick }
+    {
+        let number = Some(frame.number);
+        let (on_a, on_b) = match network {
+            Network::A => (number, self.on_b),
+            Network::B => (self.on_a, number),
+        };
+        let handed_on = self.goes_on(network, frame);
+        let last = if handed_on { Some(frame) } else { self.last };
+        Decision {
+            outcome: Ok(Taken { network, handed_on }),
+            state: State {
+                skew: self.skew,
+                on_a,
+                on_b,
+                last,
+                taken: frame.tick,
+            },
+        }
+    }
+
+    // Whether a frame goes on, by the number received before it on its network and what was handed on last.
+    fn goes_on(self, network: Network, frame: Numbered) -> bool
+        ensures { result ≡ (sound (received_on (view_network network) (view_state self)) frame.number && is_new self.skew (view_handed_on self.last) frame.number frame.tick) }
+    {
+        let previous = match network {
+            Network::A => self.on_a,
+            Network::B => self.on_b,
+        };
+        is_sound(previous, frame.number) && is_new(self.skew, self.last, frame)
     }
 
     // The call: the earlier of the waiting frames is taken, and the part of it that is handed on stays where it is.
-    pub fn select<'a>(self, a: &'a [u8], at_a: u64, b: &'a [u8], at_b: u64) -> Selection<'a>
-        ensures { view_selection result ≡ select (view_state self) (presented a.now at_a b.now at_b) }
+    pub fn select<'a>(self, a: Waiting<'a>, b: Waiting<'a>) -> Selection<'a>
+        ensures { view_selection result ≡ select (view_state self) (presented a.entry b.entry) }
     {
-        let decision = self.decide(a, at_a, b, at_b);
-        let part = decision.part(a, b);
+        let decision = self.decide(a, b);
+        let part = decision.part(a.frame, b.frame);
         Selection { decision, part }
     }
 }
@@ -270,14 +218,12 @@ impl Decision {
     pub fn part<'a>(self, a: &'a [u8], b: &'a [u8]) -> &'a [u8]
         ensures { result.now ≡ part_of (view_decision self) (frames a.now b.now) }
     {
-        let network = self.network;
-        if self.handed_on {
-            return match network {
-                Network::Neither => &a[..0],
+        match self.outcome {
+            Ok(taken) if taken.handed_on => match taken.network {
                 Network::A => without_last(a),
                 Network::B => without_last(b),
-            };
+            },
+            _ => &a[..0],
         }
-        &a[..0]
     }
 }

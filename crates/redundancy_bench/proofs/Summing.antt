@@ -1,17 +1,17 @@
 -- The sum, call by call.
 use mathlib.Core.Path.{◌≡◌, refl, sym, ap, ◌∙◌}
 use mathlib.Core.Bool.{Bool, true, false, cond}
-use mathlib.Core.List.{List, [], ◌∷◌}
-use Prim.Native.Nat.{ℕ, zero, suc, ◌+◌, ◌-◌, ◌*◌, ◌/◌, ◌≤◌, ◌<◌}
+use mathlib.Core.List.{List, []}
+use Prim.Native.Nat.{ℕ, suc, ◌+◌, ◌-◌, ◌*◌, ◌/◌, ◌≤◌, ◌<◌}
 use native.Mathlib.Omega.{arith}
 use lib.ListN.{length, get_or, take, drop}
 use borrow.Author.Tests.{lt-ltb, le-ltb}
 use Rattle.model.specs.Redundancy.{State, Selection, fresh, select}
 use Rattle.redundancy.specs.declared.Decision.{Decision as DecisionRecord}
-use Rattle.redundancy.specs.View.{presented, view_state, view_network, view_decision}
+use Rattle.redundancy.specs.View.{view_state, network_of, view_decision}
 use Rattle.redundancy_measure.specs.declared.Measure.{Measure}
 use Rattle.redundancy_measure.specs.Measure.{measure_of}
-use Rattle.redundancy_bench.specs.Sums.{frame_at, is_b, added, Recordings, answer_at, sum_of}
+use Rattle.redundancy_bench.specs.Sums.{frame_at, placed, is_b, added, Recordings, answer_at, sum_of}
 
 -- k of so many calls are made
 module _ (r : Recordings) (s : State) (i j total calls k : ℕ) (more : k < calls) (d : DecisionRecord) (m : Measure)
@@ -19,7 +19,7 @@ module _ (r : Recordings) (s : State) (i j total calls k : ℕ) (more : k < call
   left : calls - k ≡ suc (calls - (k + 1))
   left = omega arith
 
-  pub step : (b : Bool) → b ≡ is_b (view_network d.network)
+  pub step : (b : Bool) → b ≡ is_b (network_of d.outcome)
       → sum_of (calls - k) r s i j total ≡ sum_of (calls - (k + 1)) r (view_state d.state) (cond b i (i + 1)) (cond b (j + 1) j) (added total m)
   unfolding sum_of
   step b e = rw (left, e, measured) (ap (λ x. sum_of (calls - (k + 1)) r x.state (cond (is_b x.network) i (i + 1)) (cond (is_b x.network) (j + 1) j) (added total (measure_of (answer_at r s i j).part))) (sym decided))
@@ -34,11 +34,6 @@ frame_there frames k h =
 pub frame_past : (frames : List ℕ) (k : ℕ) → length frames / 64 ≤ k → [] ≡ frame_at frames k
 unfolding frame_at
 frame_past frames k h = rw (le-ltb k (length frames / 64) h) refl
-
-pub tick_past : (ticks : List ℕ) (k : ℕ) → length ticks ≤ k → 0 ≡ get_or ticks k 0
-tick_past [] k h = refl
-tick_past (t ∷ ticks) zero h = absurd (omega arith)
-tick_past (t ∷ ticks) (suc k) h = tick_past ticks k (omega arith)
 
 -- ---- the loop: so many calls are made, and the sum of those that are left, from here, is the whole sum
 pub record Going (r : Recordings) (skew calls : ℕ) (s : State) (i j total k : ℕ) : Type 0 where
@@ -59,9 +54,9 @@ ends r skew calls {s} {i} {j} {total} {k} g h = let none_left : calls - k ≡ 0 
 
 module _ (r : Recordings) (skew calls : ℕ) {s : State} {i j total k : ℕ} (g : Going r skew calls s i j total k) (more : k < calls)
     {fa fb : List ℕ} {ta tb : ℕ} (ea : fa ≡ frame_at r.a i) (eta : ta ≡ get_or r.ticks_a i 0) (eb : fb ≡ frame_at r.b j) (etb : tb ≡ get_or r.ticks_b j 0)
-    (d : DecisionRecord) (m : Measure) (decided : view_decision d ≡ (select s (presented fa ta fb tb)).decision) (measured : m ≡ measure_of (select s (presented fa ta fb tb)).part)
-    {total' : ℕ} (sum : total' ≡ added total m) {b : Bool} (which : b ≡ is_b (view_network d.network)) where
-  is_answer : select s (presented fa ta fb tb) ≡ answer_at r s i j
+    (d : DecisionRecord) (m : Measure) (decided : view_decision d ≡ (select s (placed fa ta fb tb)).decision) (measured : m ≡ measure_of (select s (placed fa ta fb tb)).part)
+    {total' : ℕ} (sum : total' ≡ added total m) {b : Bool} (which : b ≡ is_b (network_of d.outcome)) where
+  is_answer : select s (placed fa ta fb tb) ≡ answer_at r s i j
   is_answer = rw (ea, eta, eb, etb) refl
 
   next : sum_of (calls - (k + 1)) r (view_state d.state) (cond b i (i + 1)) (cond b (j + 1) j) total' ≡ sum_of calls r (fresh skew) 0 0 0

@@ -1,7 +1,6 @@
 -- What bench/ makes of two recordings in memory: calls in a row, and a sum of what is told of their parts.
 use Rattle.std.specs.Prelude.{Bool, true, false, cond, List, [], ℕ, zero, suc, ◌+◌, ◌*◌, ◌/◌, ◌%◌, ltb, length, get_or, take, drop}
-use Rattle.model.specs.Redundancy.{Network, neither, network_a, network_b, State, Selection, select}
-use Rattle.redundancy.specs.View.{presented}
+use Rattle.model.specs.Redundancy.{Network, neither, network_a, network_b, State, Presented, Selection, select}
 use Rattle.redundancy_measure.specs.declared.Measure.{Measure}
 use Rattle.redundancy_measure.specs.Measure.{measure_of}
 
@@ -24,9 +23,13 @@ pub record Recordings : Type 0 where
   pub b : List ℕ
   pub ticks_b : List ℕ
 
+-- two waiting frames and their ticks
+abbrev pub placed : List ℕ → ℕ → List ℕ → ℕ → Presented
+placed a at_a b at_b = record { a = record { frame = a; tick = at_a }; b = record { frame = b; tick = at_b } }
+
 -- the answer where the i-th frame of A and the j-th of B wait
 abbrev pub answer_at : Recordings → State → ℕ → ℕ → Selection
-answer_at r s i j = select s (presented (frame_at r.a i) (get_or r.ticks_a i 0) (frame_at r.b j) (get_or r.ticks_b j 0))
+answer_at r s i j = select s (placed (frame_at r.a i) (get_or r.ticks_a i 0) (frame_at r.b j) (get_or r.ticks_b j 0))
 
 -- so many calls; the frame that is taken makes room for the next of its recording
 unfoldable pub sum_of : ℕ → Recordings → State → ℕ → ℕ → ℕ → ℕ

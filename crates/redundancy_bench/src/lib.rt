@@ -3,12 +3,12 @@
 
 ghost use Rattle.std.specs.Prelude.{◌≡◌, get_or};
 ghost use Rattle.model.specs.Redundancy.{fresh};
-ghost use Rattle.redundancy.specs.View.{view_network};
+ghost use Rattle.redundancy.specs.View.{network_of};
 ghost use Rattle.redundancy_bench.specs.Sums.{frame_at, is_b, added, sum_of};
 
-use numbers::u8_as_u64;
-use redundancy::{Network, State};
+use redundancy::{Network, State, Taken, Waiting};
 use redundancy_measure::{Measure, measured};
+use refusal::Refusal;
 
 const FRAME: usize = 64;
 
@@ -26,19 +26,18 @@ fn frame_at<'a>(frames: &'a [u8], k: usize) -> &'a [u8]
 fn tick_at(ticks: &[u64], k: usize) -> u64
     ensures { result ≡ get_or ticks.now k 0 }
 {
-    if k < ticks.len() {
-        return ticks[k];
-    }
-    0
+    ticks.get(k).copied().unwrap_or(0)
 }
 
-fn is_b(network: Network) -> bool
-    ensures { result ≡ is_b (view_network network) }
+fn is_b(outcome: Result<Taken, Refusal>) -> bool
+    ensures { result ≡ is_b (network_of outcome) }
 {
-    match network {
-        Network::Neither => false,
-        Network::A => false,
-        Network::B => true,
+    match outcome {
+        Ok(taken) => match taken.network {
+            Network::A => false,
+            Network::B => true,
+        },
+        Err(_) => false,
     }
 }
 
@@ -47,7 +46,7 @@ fn with_part(total: u64, m: Measure) -> u64
     ensures { result ≡ added total m }
 {
     let length = (m.length % 65536) as u64;
-    total % 4294967296 + length + u8_as_u64(m.first) + u8_as_u64(m.last)
+    total % 4294967296 + length + u64::from(m.first) + u64::from(m.last)
 }
 
 // So many calls from a fresh state; the frame that is taken makes room for the next of its recording.
@@ -66,26 +65,24 @@ pub extern "C" fn bench_redundancy<'a>(
     let mut total: u64 = 0;
     let mut i: usize = 0;
     let mut j: usize = 0;
-    let mut k: usize = 0;
-    while k < calls {
-        let m = measured(
-            state,
-            frame_at(a, i),
-            tick_at(ticks_a, i),
-            frame_at(b, j),
-            tick_at(ticks_b, j),
-        );
+    for _k in 0..calls {
+        let on_a = Waiting {
+            frame: frame_at(a, i),
+            tick: tick_at(ticks_a, i),
+        };
+        let on_b = Waiting {
+            frame: frame_at(b, j),
+            tick: tick_at(ticks_b, j),
+        };
+        let m = measured(state, on_a, on_b);
         let d = m.decision;
         state = d.state;
-        let measure = m.measure;
-        total = with_part(total, measure);
-        let network = d.network;
-        if is_b(network) {
+        total = with_part(total, m.measure);
+        if is_b(d.outcome) {
             j += 1;
         } else {
             i += 1;
         }
-        k += 1;
     }
     total
 }

@@ -2,14 +2,15 @@
 // each call. What it must print was computed by reference/, whose src/cases/redundancy.rs has the form of a case.
 #![tactic(auto)]
 
-use little_endian::{read2, read8};
-use redundancy::{Decision, HandedOn, Network, Received, State};
+use little_endian::LittleEndian;
+use output::{Out, STDOUT_FILENO};
+use redundancy::{Decision, Network, Numbered, State, Waiting};
 use redundancy_measure::{Measure, measured};
+use std::fmt;
+use std::fmt::Write;
 
-// The files that a program begins with.
+// The file that a program begins with and reads.
 const STDIN_FILENO: i32 = 0;
-
-const STDOUT_FILENO: i32 = 1;
 
 // The bytes before the calls of a case: form, state, number of calls.
 const CASE: usize = 33;
@@ -21,76 +22,71 @@ const CALL: usize = 20;
 const FRAME: usize = 2048;
 
 fn main() {
-    // Nothing says that the input ends, so the loop counts down, from a number that no run uses up.
-    let mut turns = u64::MAX;
-    while turns > 0 && next_case() {
-        turns -= 1;
+    let mut out = Out::new(STDOUT_FILENO);
+    let _ = put_cases(&mut out);
+    let _ = out.flush();
+}
+
+fn put_cases(out: &mut Out) -> fmt::Result {
+    // Nothing says that the input ends, so the loop counts up to a number that no run uses up.
+    for _ in 0..u64::MAX {
+        if !put_case(out)? {
+            break;
+        }
     }
+    Ok(())
 }
 
 // Reads a case and prints its lines; false where the input ends.
-fn next_case() -> bool {
+fn put_case(out: &mut Out) -> Result<bool, fmt::Error> {
     let mut head = [0u8; CASE];
     if io::read_full(STDIN_FILENO, &mut head) < CASE {
-        return false;
+        return Ok(false);
     }
-    run(state_of(&head), head[0], read2(&head, 31));
-    true
+    put_calls(out, state_of(&head), head[0], u16::read(&head, 31))?;
+    Ok(true)
 }
 
 fn state_of(head: &[u8; CASE]) -> State {
-    let on_a = received(head[9], head[10]);
-    let on_b = received(head[11], head[12]);
-    let last = handed_on(head[13], head[14], read8(head, 15));
+    let number = head[14];
+    let tick = u64::read(head, 15);
     State {
-        skew: read8(head, 1),
-        on_a,
-        on_b,
-        last,
-        taken: read8(head, 23),
+        skew: u64::read(head, 1),
+        on_a: (head[9] != 0).then_some(head[10]),
+        on_b: (head[11] != 0).then_some(head[12]),
+        last: (head[13] != 0).then_some(Numbered { number, tick }),
+        taken: u64::read(head, 23),
     }
-}
-
-fn received(some: u8, number: u8) -> Received {
-    if some == 0 {
-        return Received::Nothing;
-    }
-    Received::Number(number)
-}
-
-fn handed_on(some: u8, number: u8, tick: u64) -> HandedOn {
-    if some == 0 {
-        return HandedOn::Nothing;
-    }
-    HandedOn::Frame(number, tick)
 }
 
 // Each line has the state, or, in form 2, one behind the others.
-fn run(start: State, form: u8, many: u16) {
+fn put_calls(out: &mut Out, start: State, form: u8, many: u16) -> fmt::Result {
     let mut state = start;
-    for _i in 0..many {
-        state = next_call(state, form);
+    for _ in 0..many {
+        state = put_call(out, state, form)?;
     }
     if form == 2 {
-        say(b"end");
-        say_state(state);
+        write!(out, "end")?;
+        put_state(out, state)?;
     }
+    Ok(())
 }
 
-fn next_call(state: State, form: u8) -> State {
+// The line of the next call, and the new state.
+fn put_call(out: &mut Out, state: State, form: u8) -> Result<State, fmt::Error> {
     let mut head = [0u8; CALL];
     io::read_full(STDIN_FILENO, &mut head);
     let mut a = [0u8; FRAME];
-    take(read2(&head, 0), &mut a);
+    take(u16::read(&head, 0), &mut a);
     let mut b = [0u8; FRAME];
-    take(read2(&head, 10), &mut b);
-    let after = answered(state, &head, &a, &b);
+    take(u16::read(&head, 10), &mut b);
+    let after = put_answered(out, state, &head, &a, &b)?;
     if form == 2 {
-        say(b"\n");
+        out.write_str("\n")?;
     } else {
-        say_state(after);
+        put_state(out, after)?;
     }
-    after
+    Ok(after)
 }
 
 // Reads a frame to the start of bytes.
@@ -100,14 +96,24 @@ fn take(length: u16, bytes: &mut [u8]) {
 }
 
 // Prints the answer, and hands the new state back.
-fn answered<'a>(state: State, head: &[u8; CALL], a: &'a [u8], b: &'a [u8]) -> State {
-    let frame_a = start_of(a, read2(head, 0));
-    let frame_b = start_of(b, read2(head, 10));
-    let m = measured(state, frame_a, read8(head, 2), frame_b, read8(head, 12));
-    let decision = m.decision;
-    let measure = m.measure;
-    say_answer(decision, measure);
-    decision.state
+fn put_answered(
+    out: &mut Out,
+    state: State,
+    head: &[u8; CALL],
+    a: &[u8],
+    b: &[u8],
+) -> Result<State, fmt::Error> {
+    let on_a = Waiting {
+        frame: start_of(a, u16::read(head, 0)),
+        tick: u64::read(head, 2),
+    };
+    let on_b = Waiting {
+        frame: start_of(b, u16::read(head, 10)),
+        tick: u64::read(head, 12),
+    };
+    let m = measured(state, on_a, on_b);
+    put_answer(out, m.decision, m.measure)?;
+    Ok(m.decision.state)
 }
 
 fn start_of<'a>(bytes: &'a [u8], length: u16) -> &'a [u8] {
@@ -115,66 +121,43 @@ fn start_of<'a>(bytes: &'a [u8], length: u16) -> &'a [u8] {
     &bytes[..n]
 }
 
-fn say_answer(d: Decision, m: Measure) {
-    let network = d.network;
-    print(d.refused as u64);
-    say_network(network);
-    number(flag(d.handed_on));
-    number(m.length as u64);
-    number(m.first as u64);
-    number(m.last as u64);
-}
-
-fn flag(is: bool) -> u64 {
-    if is { 1 } else { 0 }
-}
-
-fn say_network(n: Network) {
-    match n {
-        Network::Neither => say(b" -"),
-        Network::A => say(b" A"),
-        Network::B => say(b" B"),
-    }
-}
-
-fn say_state(s: State) {
-    let on_a = s.on_a;
-    let on_b = s.on_b;
-    let last = s.last;
-    number(s.skew);
-    say_received(on_a);
-    say_received(on_b);
-    say_handed_on(last);
-    number(s.taken);
-    say(b"\n");
-}
-
-fn say_received(r: Received) {
-    match r {
-        Received::Nothing => say(b" -"),
-        Received::Number(n) => number(n as u64),
-    }
-}
-
-fn say_handed_on(h: HandedOn) {
-    match h {
-        HandedOn::Nothing => say(b" -"),
-        HandedOn::Frame(n, tick) => {
-            number(n as u64);
-            number(tick);
+fn put_answer(out: &mut Out, d: Decision, m: Measure) -> fmt::Result {
+    match d.outcome {
+        Ok(taken) => {
+            let network = name(taken.network);
+            let handed_on = u8::from(taken.handed_on);
+            write!(out, "0 {network} {handed_on}")?;
         }
+        Err(refusal) => write!(out, "{} - 0", refusal.number())?,
+    }
+    write!(out, " {} {} {}", m.length, m.first, m.last)
+}
+
+fn name(n: Network) -> &'static str {
+    match n {
+        Network::A => "A",
+        Network::B => "B",
     }
 }
 
-fn say(text: &[u8]) {
-    io::write_all(STDOUT_FILENO, text);
+fn put_state(out: &mut Out, s: State) -> fmt::Result {
+    write!(out, " {}", s.skew)?;
+    put_received(out, s.on_a)?;
+    put_received(out, s.on_b)?;
+    put_handed_on(out, s.last)?;
+    writeln!(out, " {}", s.taken)
 }
 
-fn print(n: u64) {
-    io::print_decimal(STDOUT_FILENO, n);
+fn put_received(out: &mut Out, r: Option<u8>) -> fmt::Result {
+    match r {
+        None => write!(out, " -"),
+        Some(n) => write!(out, " {n}"),
+    }
 }
 
-fn number(n: u64) {
-    say(b" ");
-    print(n);
+fn put_handed_on(out: &mut Out, h: Option<Numbered>) -> fmt::Result {
+    match h {
+        None => write!(out, " -"),
+        Some(frame) => write!(out, " {} {}", frame.number, frame.tick),
+    }
 }

@@ -7,71 +7,61 @@ mod calls;
 mod recording;
 mod source;
 
+use calls::Stop;
 use output::messages::tell;
+use redundancy::Network;
 use source::Source;
+use std::fmt;
 
 fn main(rt: HostRuntime) {
     if input::arg_count(&rt) != 4 {
-        tell_usage();
+        let _ = tell_usage();
         return;
     }
-    let mut word = io::buffer();
-    let n = input::arg(&rt, 1, &mut word);
-    let skew = input::read_numeral(&word[..n]);
-    if !skew.is_numeral {
-        tell_usage();
-        return;
-    }
-    with_skew(&rt, skew.value);
+    let _ = match input::read_numeral(input::arg(&rt, 1, &mut io::buffer())) {
+        Some(skew) => with_skew(&rt, skew),
+        None => tell_usage(),
+    };
 }
 
-fn tell_usage() {
-    tell(b"usage: redundancy SKEW A B", b"");
+fn tell_usage() -> fmt::Result {
+    tell("usage: redundancy SKEW A B", b"")
 }
 
-fn with_skew(rt: &HostRuntime, skew: u64) {
+fn with_skew(rt: &HostRuntime, skew: u64) -> fmt::Result {
     let mut first = io::buffer();
-    let n = input::arg(rt, 2, &mut first);
     let mut second = io::buffer();
-    let k = input::arg(rt, 3, &mut second);
-    with_names(rt, skew, &first[..n], &second[..k]);
+    let a = input::arg(rt, 2, &mut first);
+    let b = input::arg(rt, 3, &mut second);
+    with_names(rt, skew, a, b)
 }
 
-fn with_names<'a>(rt: &HostRuntime, skew: u64, a: &'a [u8], b: &'a [u8]) {
+fn with_names(rt: &HostRuntime, skew: u64, a: &[u8], b: &[u8]) -> fmt::Result {
     if is_input(a) && is_input(b) {
-        tell_usage();
-        return;
+        return tell_usage();
     }
-    let Some(mut fd_a) = opened(rt, a) else {
-        tell(b"can't open ", a);
-        return;
+    let Some(source_a) = opened(rt, a) else {
+        return tell("can't open ", a);
     };
-    let Some(mut fd_b) = opened(rt, b) else {
-        tell(b"can't open ", b);
-        return;
+    let Some(source_b) = opened(rt, b) else {
+        return tell("can't open ", b);
     };
-    let end = calls::run(skew, &mut fd_a, &mut fd_b);
-    if end == calls::UNREAD_A {
-        tell(b"can't read ", a);
-    } else if end == calls::UNREAD_B {
-        tell(b"can't read ", b);
-    } else if end == calls::REFUSED {
-        tell(b"refused", b"");
-    } else if end == calls::UNWRITTEN {
-        tell(b"can't write", b"");
+    match calls::run(skew, source_a, source_b) {
+        Ok(()) => Ok(()),
+        Err(Stop::Unread(Network::A)) => tell("can't read ", a),
+        Err(Stop::Unread(Network::B)) => tell("can't read ", b),
+        Err(Stop::Refused) => tell("refused", b""),
+        Err(Stop::Unwritten) => tell("can't write", b""),
     }
 }
 
 fn is_input(name: &[u8]) -> bool {
-    name.len() == 1 && name[0] == b'-'
+    name == b"-".as_slice()
 }
 
 fn opened(rt: &HostRuntime, name: &[u8]) -> Option<Source> {
     if is_input(name) {
         return Some(Source::Input(rt.stdin()));
     }
-    match input::open_read(rt, name) {
-        Some(file) => Some(Source::File(file)),
-        None => None,
-    }
+    Some(Source::File(input::open_read(rt, name)?))
 }

@@ -1,35 +1,26 @@
 // A recording, read in parts.
-ghost use Rattle.std.specs.Prelude.{◌≤◌, length};
+ghost use Rattle.std.specs.Prelude.{◌≤◌, IfOk};
 
 use crate::source::Source;
-use little_endian::read8;
+use input::CutShort;
+use little_endian::LittleEndian;
+use redundancy::Waiting;
 
 // The bytes of a part. A frame lies in it whole.
-pub(crate) const PART: usize = 8192;
+const PART: usize = 8192;
 
 // The bytes before those of a frame: its tick and its length.
 const HEAD: usize = 16;
 
 // The longest frame.
-const MOST: usize = 2048;
+const MOST: u64 = 2048;
 
 // What stands behind a part: more, or the end; or a read failed.
-const MORE: u8 = 0;
-
-const END: u8 = 1;
-
-const BROKEN: u8 = 2;
-
-// The frame that waits: its tick, and where its bytes lie in the part; of length 0 where the recording has ended, or where it has
-// something other than a frame, which `failed` tells. The part is filled up to `to`.
-#[derive(Clone, Copy)]
-pub(crate) struct Recording {
-    pub failed: bool,
-    pub tick: u64,
-    pub at: usize,
-    pub length: usize,
-    to: usize,
-    behind: u8,
+#[derive(Clone, Copy, Debug, PartialEq, Eq)]
+enum Behind {
+    More,
+    End,
+    Broken,
 }
 
 // The bytes of a part that are still to be read: from one place up to another.
@@ -37,137 +28,132 @@ pub(crate) struct Recording {
 struct Unread {
     from: usize,
     to: usize,
-    behind: u8,
+    behind: Behind,
+
+    ghost within: { (from ≤ to) × (to ≤ 8192) },
 }
 
-// Before the first frame.
-pub(crate) fn start() -> Recording {
-    none(false, MORE)
+// The frame that waits: its tick, and where its bytes lie in the part.
+#[derive(Clone, Copy)]
+struct Frame {
+    tick: u64,
+    at: usize,
+    end: usize,
+
+    ghost within: { (at ≤ end) × (end ≤ 8192) },
 }
 
-fn none(failed: bool, behind: u8) -> Recording {
-    Recording {
-        failed,
-        tick: 0,
-        at: 0,
-        length: 0,
-        to: 0,
-        behind,
-    }
+// A recording has something other than a frame, or can't be read.
+#[derive(Clone, Copy, Debug, PartialEq, Eq)]
+pub(crate) struct Unreadable;
+
+#[derive(Drop)]
+pub(crate) struct Recording {
+    source: Source,
+    part: [u8; PART],
+    unread: Unread,
+    frame: Option<Frame>,
 }
 
-// The frame behind the one that waits.
-pub(crate) fn next(fd: &mut Source, r: Recording, part: &mut [u8; PART]) -> Recording {
-    let passed = Unread {
-        from: least(r.at, PART) + least(r.length, MOST),
-        to: r.to,
-        behind: r.behind,
-    };
-    let head = filled(fd, part, passed, HEAD);
-    if count(head) == 0 && head.behind == END {
-        return none(false, END);
+impl Recording {
+    // Before the first frame.
+    pub(crate) fn new(source: Source) -> Recording {
+        let unread = Unread {
+            from: 0,
+            to: 0,
+            behind: Behind::More,
+        };
+        Recording {
+            source,
+            part: [0; PART],
+            unread,
+            frame: None,
+        }
     }
-    let length = length_of(part, head);
-    if length == 0 || length > MOST as u64 {
-        return none(true, END);
-    }
-    let n = least(length as usize, MOST);
-    let whole = filled(fd, part, head, HEAD + n);
-    with_frame(part, whole, n)
-}
 
-// The length that the head of a frame says; 0 where there is no whole head.
-fn length_of(part: &[u8], head: Unread) -> u64 {
-    let from = head.from;
-    if from > PART {
-        return 0;
+    pub(crate) fn has_ended(&self) -> bool {
+        self.frame.is_none()
     }
-    if count(head) < HEAD {
-        return 0;
-    }
-    read8(part, from + 8)
-}
 
-fn with_frame(part: &[u8], whole: Unread, length: usize) -> Recording
-    requires { length ≤ 2048 }
-{
-    let from = whole.from;
-    if from > PART {
-        return none(true, END);
+    // The frame that waits, empty where the recording has ended.
+    pub(crate) fn waiting(&self) -> Waiting<'_> {
+        match self.frame {
+            Some(f) => Waiting {
+                frame: &self.part[f.at..f.end],
+                tick: f.tick,
+            },
+            None => Waiting {
+                frame: &[],
+                tick: 0,
+            },
+        }
     }
-    if count(whole) < HEAD + length {
-        return none(true, END);
-    }
-    Recording {
-        failed: false,
-        tick: read8(part, from),
-        at: from + HEAD,
-        length,
-        to: whole.to,
-        behind: whole.behind,
-    }
-}
 
-fn count(u: Unread) -> usize {
-    if u.to < u.from { 0 } else { u.to - u.from }
-}
+    // The next frame waits, or the recording has ended.
+    pub(crate) fn advance(&mut self) -> Result<(), Unreadable> {
+        self.fill(HEAD);
+        let head = self.unread;
+        if head.from == head.to && head.behind == Behind::End {
+            self.frame = None;
+            return Ok(());
+        }
+        let length = self.length()?;
+        self.fill(HEAD + length);
+        let u = self.unread;
+        if u.to - u.from < HEAD + length {
+            return Err(Unreadable);
+        }
+        let at = u.from + HEAD;
+        let end = at + length;
+        let tick = u64::read(&self.part, u.from);
+        self.frame = Some(Frame { tick, at, end });
+        self.unread = Unread {
+            from: end,
+            to: u.to,
+            behind: u.behind,
+        };
+        Ok(())
+    }
 
-// At least so many bytes to be read, or all that there are: what is left of the part goes to its start, and more is read behind it.
-fn filled(fd: &mut Source, part: &mut [u8], u: Unread, many: usize) -> Unread {
-    if many <= count(u) || u.behind != MORE {
-        return u;
+    // The length that the head of a frame says.
+    fn length(&self) -> Result<usize, Unreadable>
+        ensures { IfOk result (λ n. n ≤ 2048) }
+    {
+        let u = self.unread;
+        if u.to - u.from < HEAD {
+            return Err(Unreadable);
+        }
+        let length = u64::read(&self.part, u.from + 8);
+        if length == 0 || length > MOST {
+            return Err(Unreadable);
+        }
+        Ok(length as usize)
     }
-    let kept = moved(part, u.from, u.to);
-    let read = input::read(fd, &mut part[kept..]);
-    let to = kept + read.length;
-    Unread {
-        from: 0,
-        to,
-        behind: behind_of(read.is_read, to == part.len()),
-    }
-}
 
-fn behind_of(is_read: bool, is_full: bool) -> u8 {
-    if is_full {
-        return MORE;
+    // At least so many bytes to be read, or all that there are: what is left of the part goes to its start, and more is read behind it.
+    fn fill(&mut self, many: usize) {
+        let u = self.unread;
+        let kept = u.to - u.from;
+        if many <= kept || u.behind != Behind::More {
+            return;
+        }
+        self.part.copy_within(u.from..u.to, 0);
+        let read = input::read(&mut self.source, &mut self.part[kept..]);
+        self.unread = match read {
+            Ok(n) => Unread {
+                from: 0,
+                to: kept + n,
+                behind: if kept + n == PART {
+                    Behind::More
+                } else {
+                    Behind::End
+                },
+            },
+            Err(CutShort { length }) => Unread {
+                from: 0,
+                to: kept + length,
+                behind: Behind::Broken,
+            },
+        };
     }
-    if is_read {
-        return END;
-    }
-    BROKEN
-}
-
-// The bytes from one place up to another go to the start, and are counted.
-fn moved(part: &mut [u8], from: usize, to: usize) -> usize
-    ensures { result ≤ length part.new }
-{
-    let end = least(to, part.len());
-    let mut n: usize = 0;
-    let mut i = from;
-    while i < end {
-        part[n] = part[i];
-        n += 1;
-        i += 1;
-    }
-    n
-}
-
-// The bytes of the frame that waits.
-pub(crate) fn frame_of<'a>(part: &'a [u8], r: Recording) -> &'a [u8] {
-    let at = r.at;
-    let length = r.length;
-    if at > part.len() {
-        return &part[..0];
-    }
-    if length > part.len() - at {
-        return &part[..0];
-    }
-    let end = at + length;
-    &part[at..end]
-}
-
-fn least(a: usize, b: usize) -> usize
-    ensures { result ≤ b }
-{
-    if a < b { a } else { b }
 }

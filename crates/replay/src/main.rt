@@ -4,14 +4,19 @@
 // frame), tick, line, number, length.
 #![tactic(auto)]
 
+ghost use Rattle.std.specs.Prelude.{◌≡◌};
+ghost use Rattle.model.specs.Table.{table_refusal};
+ghost use Rattle.table.specs.View.{view_table};
+
 mod answers;
 mod counts;
 mod parts;
 
 use output::messages::{refuse, tell};
+use parts::Stop;
 use port::Port;
 use std::fs::File;
-use std::io::{Seek, SeekFrom};
+use std::io::Seek;
 use table::Table;
 
 // The longest table file, and a byte more.
@@ -19,80 +24,61 @@ const TABLE: usize = 4653;
 
 fn main(rt: HostRuntime) {
     if input::arg_count(&rt) != 3 {
-        tell(b"usage: replay TABLE REPORTS", b"");
+        let _ = tell("usage: replay TABLE REPORTS", b"");
         return;
     }
-    let mut name = io::buffer();
-    let n = input::arg(&rt, 1, &mut name);
-    with_table(&rt, &name[..n]);
+    with_table(&rt, input::arg(&rt, 1, &mut io::buffer()));
 }
 
 fn with_table(rt: &HostRuntime, name: &[u8]) {
     let Some(mut fd) = input::open_read(rt, name) else {
-        tell(b"can't open ", name);
+        let _ = tell("can't open ", name);
         return;
     };
     let mut file = [0u8; TABLE];
-    let given = input::read(&mut fd, &mut file);
-    if !given.is_read {
-        tell(b"can't read ", name);
+    let Ok(n) = input::read(&mut fd, &mut file) else {
+        let _ = tell("can't read ", name);
         return;
+    };
+    match table_file::read(&file[..n]) {
+        Ok(t) => with_reports(rt, t, input::arg(rt, 2, &mut io::buffer())),
+        Err(refusal) => {
+            let _ = refuse(refusal);
+        }
     }
-    let n = given.length;
-    let reading = table_file::read(&file[..n]);
-    if reading.refused != 0 {
-        refuse(reading.refused as u64);
-        return;
-    }
-    let t = reading.table;
-    let mut second = io::buffer();
-    let k = input::arg(rt, 2, &mut second);
-    with_reports(rt, t, &second[..k]);
 }
 
 // The reports are read twice: nothing is printed of a file that has something else in it.
 fn with_reports(rt: &HostRuntime, t: Table, name: &[u8]) {
     let Some(mut fd) = input::open_read(rt, name) else {
-        tell(b"can't open ", name);
+        let _ = tell("can't open ", name);
         return;
     };
-    let state = answered(t, &mut fd);
-    if state == parts::OTHER {
-        refuse(19);
-    } else if state == parts::FAILED {
-        tell(b"can't read ", name);
-    } else if state == parts::UNWRITTEN {
-        tell(b"can't write", b"");
-    }
+    let _ = match run(t, &mut fd) {
+        Ok(()) => Ok(()),
+        Err(Stop::Refused(refusal)) => refuse(refusal),
+        Err(Stop::Unread) => tell("can't read ", name),
+        Err(Stop::Unwritten) => tell("can't write", b""),
+    };
 }
 
-fn answered(t: Table, fd: &mut File) -> u8 {
-    let state = parts::check(fd);
-    if state != parts::ENDED {
-        return state;
+fn run(t: Table, fd: &mut File) -> Result<(), Stop> {
+    parts::check(fd)?;
+    if fd.rewind().is_err() {
+        return Err(Stop::Unread);
     }
-    if !is_at_start(fd) {
-        return parts::FAILED;
-    }
-    let refused = table::check(t);
-    if refused != 0 {
-        refuse(refused as u64);
-        return state;
-    }
+    table::check(t)?;
     parts::replay(t, fd)
 }
 
-// Whether the file could be put back to its first byte.
-fn is_at_start(fd: &mut File) -> bool {
-    match fd.seek(SeekFrom::Start(0)) {
-        Ok(at) => at == 0,
-        Err(_) => false,
-    }
-}
-
-// Apart from its caller, so that what holds the fresh port is gone when the reports run.
+// Apart from its caller, so that what holds the fresh port is gone when the reports run; and a port, since a Result of one would
+// take 49 KB of stack more there.
 #[inline(never)]
-pub(crate) fn fresh_port(t: Table) -> Port {
-    let start = Port::fresh(t);
-    start.port
+pub(crate) fn fresh_port(t: Table) -> Port
+    requires { table_refusal (view_table t) ≡ 0 }
+{
+    match Port::fresh(t) {
+        Ok(port) => port,
+        Err(_) => unreachable!(),
+    }
 }

@@ -1,13 +1,12 @@
 -- Numbers in bytes, eight bytes each: how many, each by its place, the rest of them; reports in bytes; numbers laid down.
 use mathlib.Core.Path.{◌≡◌, refl, sym, ap, ◌∙◌}
-use mathlib.Core.List.{List, [], ◌∷◌, ◌++◌, append-nil, append_assoc, flat_map}
+use mathlib.Core.List.{List, [], ◌∷◌, ◌++◌, append_assoc, flat_map}
 use Prim.Native.Nat.{ℕ, zero, suc, ◌+◌, ◌-◌, ◌*◌, ◌/◌, ◌≤◌, ◌<◌}
 use native.Mathlib.Omega.{arith}
-use lib.ListN.{length, get_or, take, drop, length-drop, length-append}
-use lib.Seq.{length-take-le, take-suc, drop-drop}
+use lib.ListN.{length, get_or, take, drop, length-drop}
+use lib.Seq.{length-take-le, take_all, take-suc, drop-drop}
 use Rattle.model.specs.TableFile.{to_bytes, number_at}
-use Rattle.model.specs.Report.{wait, frame}
-use Rattle.model.specs.Batch.{report_of, numbers_of, numbers_in, bytes_of, over}
+use Rattle.model.specs.Batch.{numbers_of, numbers_in, bytes_of, over}
 use Rattle.model.proofs.Bytes.{length-to_bytes}
 use Rattle.model.proofs.Lists.{length-flat_map, flat_map_more}
 use Rattle.model.proofs.Reports.{report_at}
@@ -68,20 +67,6 @@ module _ (bytes : List ℕ) where
           number_from (5 * i + 4) (40 * i + 32) (omega arith) (omega arith),
         )
 
-  -- ---- a report by its five numbers
-  pub wait_in : (at : ℕ) {form time : ℕ} → form ≡ number_at at 8 bytes → time ≡ number_at (at + 8) 8 bytes → form ≡ 0 → wait time ≡ report_in bytes at
-  unfolding report_of
-  wait_in at e t z = let q : number_at at 8 bytes ≡ 0 = sym e ∙ z in rw (q, t)
-
-  pub frame_in : (at : ℕ) {form time line number len : ℕ} → form ≡ number_at at 8 bytes → time ≡ number_at (at + 8) 8 bytes → line ≡ number_at (at + 16) 8 bytes →
-      number ≡ number_at (at + 24) 8 bytes → len ≡ number_at (at + 32) 8 bytes → (form ≡ 0 → ⊥) → frame time line number len ≡ report_in bytes at
-  unfolding report_of
-  frame_in at {form} {time} {line} {number} {len} e t l n b z = rw (← e, ← t, ← l, ← n, ← b) (go form z)
-    where
-      go : (k : ℕ) → (k ≡ 0 → ⊥) → frame time line number len ≡ report_of k time line number len
-      go zero x = absurd (x refl)
-      go (suc k) x = refl
-
 -- ---- numbers laid down
 pub bytes_long : (numbers : List ℕ) → length (bytes_of numbers) ≡ 8 * length numbers
 bytes_long numbers = length-flat_map (to_bytes 8) 8 (length-to_bytes 8) numbers
@@ -91,31 +76,20 @@ unfolding flat_map
 bytes_joined [] b = refl
 bytes_joined (x ∷ a) b = rw append_assoc (ap (λ (l : List ℕ). to_bytes 8 x ++ l) (bytes_joined a b))
 
--- three of them, one store each
-pub three_laid : (at a b c : ℕ) (out x y z : List ℕ) → at + 24 ≤ length out → x ≡ laid at (to_bytes 8 a) out → y ≡ laid (at + 8) (to_bytes 8 b) x → z ≡ laid (at + 16) (to_bytes 8 c) y →
-    z ≡ laid at (bytes_of (a ∷ b ∷ c ∷ [])) out
-unfolding flat_map
-three_laid at a b c out x y z h p q r =
-    let m = length-to_bytes 8 a in
-    let n = length-to_bytes 8 b in
-    let two = then_laid at (at + 8) (to_bytes 8 a) (to_bytes 8 b) out x y (omega arith) (omega arith) p q in
-    let three = then_laid at (at + 16) (to_bytes 8 a ++ to_bytes 8 b) (to_bytes 8 c) out y z (rw length-append (omega arith)) (rw (length-to_bytes 8 c) (omega arith)) two r in
-    rw (append-nil, ← append_assoc) three
-
 -- the first i numbers of a list, and one more
-pub record Laying (from out₀ : List ℕ) (at n : ℕ) (out : List ℕ) (i : ℕ) : Type 0 where
+pub record Laying (from out₀ : List ℕ) (at : ℕ) (out : List ℕ) (i : ℕ) : Type 0 where
   pub laid_are : out ≡ laid at (bytes_of (take i from)) out₀
   pub long : length out ≡ length out₀
-  pub left : i ≤ n
+  pub left : i ≤ length from
 
-pub none_laying : (from out : List ℕ) (at n : ℕ) → Laying from out at n out 0
+pub none_laying : (from out : List ℕ) (at : ℕ) → Laying from out at out 0
 unfolding flat_map
-none_laying from out at n = record { laid_are = none_laid at out; long = refl; left = omega arith }
+none_laying from out at = record { laid_are = none_laid at out; long = refl; left = omega arith }
 
-module _ {from out₀ : List ℕ} {at n : ℕ} {out : List ℕ} {i : ℕ} (k : Laying from out₀ at n out i) where
-  pub lays : n ≤ length from → at + 8 * n ≤ length out₀ → i < n → {out' : List ℕ} → out' ≡ laid (at + 8 * i) (to_bytes 8 (get_or from i 0)) out → length out' ≡ length out →
-      Laying from out₀ at n out' (i + 1)
-  lays h room below {out'} e m =
+module _ {from out₀ : List ℕ} {at : ℕ} {out : List ℕ} {i : ℕ} (k : Laying from out₀ at out i) where
+  pub lays : at + 8 * length from ≤ length out₀ → i < length from → {out' : List ℕ} → out' ≡ laid (at + 8 * i) (to_bytes 8 (get_or from i 0)) out → length out' ≡ length out →
+      Laying from out₀ at out' (i + 1)
+  lays room below {out'} e m =
       let x = get_or from i 0 in
       let more : take (i + 1) from ≡ take i from ++ (x ∷ []) = let s : i + 1 ≡ suc i = omega arith in rw s (take-suc from i 0 (omega arith)) in
       let far : length (bytes_of (take i from)) ≡ 8 * i = rw (bytes_long, length-take-le i from (omega arith)) in
@@ -127,8 +101,8 @@ module _ {from out₀ : List ℕ} {at n : ℕ} {out : List ℕ} {i : ℕ} (k : L
         left = omega arith;
       }
 
-  pub all_laid : n ≤ i → out ≡ laid at (bytes_of (take n from)) out₀
-  all_laid h = let e : i ≡ n = omega (arith, k.left) in rw e at k.laid_are
+  pub all_laid : length from ≤ i → out ≡ laid at (bytes_of from) out₀
+  all_laid h = rw (take_all i from h) at k.laid_are
 
 -- behind those at the start of a run of bytes
 pub bytes_over : (xs ys old : List ℕ) {bytes bytes' : List ℕ} {at : ℕ} → 8 * length xs ≡ at → bytes ≡ over (bytes_of xs) old → bytes' ≡ laid at (bytes_of ys) bytes → bytes' ≡ over (bytes_of (xs ++ ys)) old

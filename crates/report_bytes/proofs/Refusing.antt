@@ -22,14 +22,13 @@ good_bytes reports = eqb (length reports % 40) 0 && are_reports (numbers_in repo
 pub record Looking (reports : List ℕ) (i : ℕ) : Type 0 where
   pub whole : length reports % 40 ≡ 0
   pub known : are_reports (numbers_in reports) ≡ are_reports (drop (5 * i) (numbers_in reports))
-  pub left : i ≤ length reports / 40
 
 module _ (reports : List ℕ) where
   pub odd_bytes : (length reports % 40 ≡ 0 → ⊥) → false ≡ good_bytes reports
   odd_bytes z = rw (ne_eqb (length reports % 40) 0 z)
 
   pub looks : length reports % 40 ≡ 0 → Looking reports 0
-  looks w = record { whole = w; known = refl; left = omega arith }
+  looks w = record { whole = w; known = refl }
 
 module _ {reports : List ℕ} {i : ℕ} (k : Looking reports i) where
   module _ (h : i < length reports / 40) {form : ℕ} (e : form ≡ number_at (40 * i) 8 reports) where
@@ -43,11 +42,11 @@ module _ {reports : List ℕ} {i : ℕ} (k : Looking reports i) where
     unknown f = rw (eq-eqb (length reports % 40) 0 k.whole, k.known, unknown_form (numbers_in reports) i there (omega (arith, is_form)))
 
     pub looks_on : form ≤ 1 → Looking reports (i + 1)
-    looks_on f = record { whole = k.whole; known = k.known ∙ known_form (numbers_in reports) i there (omega (arith, is_form)); left = omega arith }
+    looks_on f = record { whole = k.whole; known = k.known ∙ known_form (numbers_in reports) i there (omega (arith, is_form)) }
 
   pub all_known : length reports / 40 ≤ i → true ≡ good_bytes reports
   all_known h =
-      let none : are_reports (drop (5 * i) (numbers_in reports)) ≡ true = none_left (drop (5 * i) (numbers_in reports)) (rw (length-drop, numbers_long reports) (omega (arith, k.left, k.whole))) in
+      let none : are_reports (drop (5 * i) (numbers_in reports)) ≡ true = none_left (drop (5 * i) (numbers_in reports)) (rw (length-drop, numbers_long reports) (omega (arith, k.whole))) in
       rw (eq-eqb (length reports % 40) 0 k.whole, k.known, none)
 
 -- ---- the two refusals

@@ -5,10 +5,13 @@ use native.Mathlib.Omega.{arith}
 use lib.ListN.{get_or, replicate}
 use Rattle.model.specs.Bounds.{sized_or, sizing}
 use Rattle.model.proofs.Lists.{list_to}
+use Rattle.std.specs.Prelude.{Result}
+use Rattle.refusal.specs.declared.Refusal.{Refusal}
+use Rattle.refusal.specs.Numbers.{number_or_0}
 use Rattle.table.specs.declared.Table.{Table as TableRecord}
 use Rattle.table.specs.View.{view_table}
 use Rattle.bounds.specs.declared.Bounds.{Bounds as BoundsRecord}
-use Rattle.bounds.specs.Answer.{record_bounds}
+use Rattle.bounds.specs.Answer.{sizing_of}
 use Rattle.bounds.proofs.Answered.{refusal_is}
 
 -- a relation of 0 to 0, and of the numbers below the length, holds at every place; at 8 the lists are eight f and eight g
@@ -23,6 +26,6 @@ none_of_none (suc n) zero = refl
 none_of_none (suc n) (suc i) = none_of_none n i
 
 -- an answer by its refusal
-pub answer_is : (t : TableRecord) (b : BoundsRecord) → b ≡ record_bounds (sizing (view_table t)) → (n : ℕ) → b.refused ≡ n → b ≡ record_bounds (sized_or n (view_table t))
+pub answer_is : (t : TableRecord) (b : Result BoundsRecord Refusal) → sizing_of b ≡ sizing (view_table t) → (n : ℕ) → number_or_0 b ≡ n → sizing_of b ≡ sized_or n (view_table t)
 unfolding sizing
-answer_is t b e n r = e ∙ ap (λ k. record_bounds (sized_or k (view_table t))) (sym (refusal_is t b e) ∙ r)
+answer_is t b e n r = e ∙ ap (λ k. sized_or k (view_table t)) (sym (refusal_is t b e) ∙ r)

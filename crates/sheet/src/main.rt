@@ -2,31 +2,23 @@
 // else there is to know goes to standard error: a message, or `refused` alone.
 #![tactic(auto)]
 
-// The files that a program begins with and writes to.
-const STDOUT_FILENO: i32 = 1;
-
-const STDERR_FILENO: i32 = 2;
+use output::messages::tell;
+use std::io::Print;
+use table_input::{ROOM, read_file};
 
 fn main(rt: HostRuntime) {
-    // One byte more than the largest file has.
-    let mut file = [0u8; 4653];
-    let given = input::read(&mut rt.stdin(), &mut file);
-    if !given.is_read {
-        io::write_all(STDERR_FILENO, b"can't read the table file\n");
-        return;
+    let mut file = [0u8; ROOM];
+    if let Some(n) = read_file(&rt, &mut file) {
+        print_sheet(&rt, &file[..n]);
     }
-    let n = given.length;
-    print_sheet(&file[..n]);
 }
 
-fn print_sheet(file: &[u8]) {
+fn print_sheet(rt: &HostRuntime, file: &[u8]) {
     let text = sheet_text::text_of(file);
-    let bytes = text.bytes;
-    let len = text.len;
-    if !io::write_all(STDOUT_FILENO, &bytes[..len]) {
-        io::write_all(STDERR_FILENO, b"can't write\n");
-    } else if bytes[0] == b'r' {
-        // A sheet begins with `priority`.
-        io::write_all(STDERR_FILENO, b"refused\n");
+    let sheet = text.as_str();
+    if rt.write_all(sheet.as_bytes()).is_err() {
+        let _ = tell("can't write", b"");
+    } else if sheet.starts_with("refused") {
+        let _ = tell("refused", b"");
     }
 }

@@ -1,6 +1,12 @@
 -- The lines of the sheet, from the numbers of the eight priorities.
-use Rattle.std.specs.Prelude.{List, [], ◌++◌, ℕ, zero, suc, get_or}
+use Rattle.std.specs.Prelude.{◌≡◌, List, [], ◌++◌, ℕ, zero, suc, ◌+◌, ◌≤◌, length, get_or}
+use Rattle.arrayvec.specs.ArrayString.{ArrayString}
 use Rattle.model.specs.Sheet.{text, numeral, sheet_line, header}
+
+-- a part, of at most so many bytes, was put behind a text
+pub record Put (before after : ArrayString) (part : List ℕ) (most : ℕ) : Type 0 where
+  pub bytes : after.bytes ≡ before.bytes ++ part
+  pub few : length after.bytes ≤ length before.bytes + most
 
 -- a number and the blank behind it
 abbrev pub column : ℕ → List ℕ

@@ -1,92 +1,110 @@
 // Internal to the product: the lines of the sheet.
 #![tactic(auto)]
 
-ghost use Rattle.std.specs.Prelude.{◌≡◌, ◌++◌, ◌+◌, ◌≤◌, pos, ◌-ℤ◌};
-ghost use Rattle.model.specs.Sheet.{text, numeral, difference, fill, sheet_line};
-ghost use Rattle.sheet_numerals.specs.Fixed.{text_room, most_line, record_text, Appended};
-ghost use Rattle.sheet_lines.specs.Lines.{column, columns, table_lines, refusal_line};
+ghost use Rattle.std.specs.Prelude.{◌≡◌, ◌++◌, ◌+◌, ◌≤◌, pos, ◌-ℤ◌, decimal};
+ghost use Rattle.arrayvec.specs.ArrayString.{array_string_len};
+ghost use Rattle.model.specs.Sheet.{text, difference, fill, sheet_line};
+ghost use Rattle.sheet_numerals.specs.Room.{text_room, most_line};
+ghost use Rattle.sheet_lines.specs.Lines.{Put, column, columns, table_lines, refusal_line};
 
-use sheet_numerals::Text;
+use bounds::Bounds;
+use sheet_numerals::{Text, put_number};
 
-fn put_column(out: Text, n: u32) -> Text
-    requires { out.len + 11 ≤ text_room }
-    ensures { Appended out result (column n) × (result.len ≤ out.len + 11) }
+fn put_column(out: &mut Text, n: u32)
+    requires { array_string_len out.old + 11 ≤ text_room }
+    ensures { Put out.old out.new (column n) 11 }
 {
-    sheet_numerals::put_number(out, n as u64, b' ')
+    put_number(out, n, " ");
 }
 
-// All columns before spare.
-fn put_columns(out: Text, priority: u32, bound: u32, hold: u32, window: u32, size: u32) -> Text
-    requires { (priority ≤ 7) × (out.len + 46 ≤ text_room) }
-    ensures { Appended out result (columns priority bound hold window size) × (result.len ≤ out.len + 46) }
-{
-    let out = put_column(out, priority);
-    let out = put_column(out, bound);
-    let out = put_column(out, hold);
-    let out = put_column(out, window);
-    put_column(out, size)
+// What stands in a line behind its priority; spare and fill follow from it.
+#[derive(Clone, Copy)]
+struct Row {
+    bound: u32,
+    hold: u32,
+    window: u32,
+    size: u32,
 }
 
-// Exact at and below zero.
-fn spare(size: u32, bound: u32) -> i64
-    ensures { result ≡ pos size -ℤ pos bound }
-{
-    (size as i64) - (bound as i64)
-}
-
-fn put_spare(out: Text, size: u32, bound: u32) -> Text
-    requires { out.len + 12 ≤ text_room }
-    ensures { Appended out result (difference size bound ++ text " ") × (result.len ≤ out.len + 12) }
-{
-    sheet_numerals::put_signed(out, spare(size, bound), b' ')
-}
-
-// 1000 × bound / size, rounded up.
-fn per_mille(bound: u32, size: u32) -> u64
-    requires { 1 ≤ size }
-    ensures { (numeral result ≡ fill bound size) × (result ≤ 9999999999999) }
-{
-    let whole = size as u64;
-    (1000 * (bound as u64) + whole - 1) / whole
-}
-
-fn put_fill(out: Text, bound: u32, size: u32) -> Text
-    requires { out.len + 14 ≤ text_room }
-    ensures { Appended out result (fill bound size ++ text "\n") × (result.len ≤ out.len + 14) }
-{
-    if size == 0 {
-        return sheet_numerals::put(out, b"-\n");
+impl Row {
+    // All columns before spare.
+    fn put_columns(self, priority: usize, out: &mut Text)
+        requires { (priority ≤ 7) × (array_string_len out.old + 46 ≤ text_room) }
+        ensures { Put out.old out.new (columns priority self.bound self.hold self.window self.size) 46 }
+    {
+        put_number(out, priority, " ");
+        put_column(out, self.bound);
+        put_column(out, self.hold);
+        put_column(out, self.window);
+        put_column(out, self.size);
     }
-    sheet_numerals::put_number(out, per_mille(bound, size), b'\n')
-}
 
-fn put_line(out: Text, priority: u32, bound: u32, hold: u32, window: u32, size: u32) -> Text
-    requires { (priority ≤ 7) × (out.len + most_line ≤ text_room) }
-    ensures { Appended out result (sheet_line priority bound hold window size) × (result.len ≤ out.len + most_line) }
-{
-    let out = put_columns(out, priority, bound, hold, window, size);
-    let out = put_spare(out, size, bound);
-    put_fill(out, bound, size)
+    // Exact at and below zero.
+    fn spare(self) -> i64
+        ensures { result ≡ pos self.size -ℤ pos self.bound }
+    {
+        i64::from(self.size) - i64::from(self.bound)
+    }
+
+    fn put_spare(self, out: &mut Text)
+        requires { array_string_len out.old + 12 ≤ text_room }
+        ensures { Put out.old out.new (difference self.size self.bound ++ text " ") 12 }
+    {
+        put_number(out, self.spare(), " ");
+    }
+
+    // 1000 × bound / size, rounded up.
+    fn per_mille(self) -> u64
+        requires { 1 ≤ self.size }
+        ensures { (decimal result ≡ fill self.bound self.size) × (result ≤ 9999999999999) }
+    {
+        (1000 * u64::from(self.bound)).div_ceil(u64::from(self.size))
+    }
+
+    fn put_fill(self, out: &mut Text)
+        requires { array_string_len out.old + 14 ≤ text_room }
+        ensures { Put out.old out.new (fill self.bound self.size ++ text "\n") 14 }
+    {
+        if self.size == 0 {
+            out.push_str("-\n");
+            return;
+        }
+        put_number(out, self.per_mille(), "\n");
+    }
+
+    fn put_line(self, priority: usize, out: &mut Text)
+        requires { (priority ≤ 7) × (array_string_len out.old + most_line ≤ text_room) }
+        ensures { Put out.old out.new (sheet_line priority self.bound self.hold self.window self.size) most_line }
+    {
+        self.put_columns(priority, out);
+        self.put_spare(out);
+        self.put_fill(out);
+    }
 }
 
 // Each priority has its line, also where no link has that priority.
-pub fn table_lines(bounds: [u32; 8], holds: [u32; 8], windows: [u32; 8], sizes: [u32; 8]) -> Text
-    ensures { result ≡ record_text (table_lines bounds holds windows sizes) }
+pub fn table_lines(of: Bounds, sizes: [u32; 8]) -> Text
+    ensures { result.bytes ≡ table_lines of.bounds of.holds of.windows sizes }
 {
-    let start = sheet_numerals::blank();
-    let mut out = sheet_numerals::put(start, b"priority bound hold window size spare fill\n");
-    let mut p: usize = 0;
-    while p < 8 {
-        let line = put_line(out, p as u32, bounds[p], holds[p], windows[p], sizes[p]);
-        out = line;
-        p += 1;
+    let mut out = Text::new();
+    out.push_str("priority bound hold window size spare fill\n");
+    for p in 0..8 {
+        let row = Row {
+            bound: of.bounds[p],
+            hold: of.holds[p],
+            window: of.windows[p],
+            size: sizes[p],
+        };
+        row.put_line(p, &mut out);
     }
     out
 }
 
 pub fn refusal_line(number: u32) -> Text
-    ensures { result ≡ record_text (refusal_line number) }
+    ensures { result.bytes ≡ refusal_line number }
 {
-    let out = sheet_numerals::put(sheet_numerals::blank(), b"refused ");
-    sheet_numerals::put_number(out, number as u64, b'\n')
+    let mut out = Text::new();
+    out.push_str("refused ");
+    put_number(&mut out, number, "\n");
+    out
 }

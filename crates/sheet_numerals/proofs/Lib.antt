@@ -1,4 +1,1 @@
-pub mod Shape
-pub mod Appended
-pub mod Digits
-pub mod Signed
+pub mod Numerals

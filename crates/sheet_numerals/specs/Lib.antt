@@ -1,1 +1,1 @@
-pub mod Fixed
+pub mod Room

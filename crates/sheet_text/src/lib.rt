@@ -1,41 +1,31 @@
-// The sheet of a table file, as text in a fixed array.
+// The sheet of a table file, as text of fixed room.
 #![tactic(auto)]
 
-ghost use Rattle.std.specs.Prelude.{◌≡◌, min};
-ghost use Rattle.model.specs.Basics.{first_refusal};
+ghost use Rattle.std.specs.Prelude.{◌≡◌};
 ghost use Rattle.model.specs.Sheet.{sheet};
-ghost use Rattle.sheet_numerals.specs.Fixed.{record_text};
+ghost use Rattle.sheet_text.specs.Shown.{sheet_of, shown};
 
+use refusal::Refusal;
 use sheet_numerals::Text;
 
 // The largest file has 4,652 bytes. One more shows that there are bytes left.
-fn used(len: usize) -> usize
-    ensures { result ≡ min len 4653 }
-{
-    if len < 4653 { len } else { 4653 }
-}
-
-fn first_refusal(file: u32, bounds: u32) -> u32
-    ensures { result ≡ first_refusal file bounds }
-{
-    if file != 0 { file } else { bounds }
-}
+const MOST_READ: usize = 4653;
 
 // The sheet of a table file, or `refused N` with the first refusal: the reader's, 1 to 7 or 23, then 8.
 pub fn text_of(input: &[u8]) -> Text
-    ensures { result ≡ record_text (sheet input.now) }
+    ensures { result.bytes ≡ sheet input.now }
 {
-    let end = used(input.len());
-    let reading = table_file::read(&input[..end]);
-    let t = reading.table;
-    let answer = bounds::bounds_of(t);
-    let refused = first_refusal(reading.refused, answer.refused);
-    if refused != 0 {
-        return sheet_lines::refusal_line(refused);
+    let end = input.len().min(MOST_READ);
+    match lines_of(&input[..end]) {
+        Ok(text) => text,
+        Err(refusal) => sheet_lines::refusal_line(refusal.number()),
     }
-    let bounds = answer.bounds;
-    let holds = answer.holds;
-    let windows = answer.windows;
-    let sizes = t.sizes;
-    sheet_lines::table_lines(bounds, holds, windows, sizes)
+}
+
+fn lines_of(file: &[u8]) -> Result<Text, Refusal>
+    ensures { shown result ≡ sheet_of file.now }
+{
+    let t = table_file::read(file)?;
+    let b = bounds::bounds_of(t)?;
+    Ok(sheet_lines::table_lines(b, t.sizes))
 }

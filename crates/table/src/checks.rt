@@ -3,11 +3,12 @@ ghost use Rattle.std.specs.Prelude.{◌≡◌, true, ◌++◌, ℕ, ◌≤◌};
 ghost use Rattle.std.proofs.Math.Option.{none};
 ghost use Rattle.model.specs.Basics.{first_met};
 ghost use Rattle.model.specs.Table.{counts_in_range, fields_in_range, link_checks, links_checks, reservation, line_checks, size_checks};
+ghost use Rattle.refusal.specs.Numbers.{number_or_0};
 ghost use Rattle.table.specs.View.{view_link, view_links};
 ghost use Rattle.table.specs.Checks.{previous_of, SumsOf, OversoldBy};
 
 use crate::{Table, VirtualLink};
-use numbers::{excess, smaller, u8_as_u16, u8_as_u64, u8_as_usize, u16_as_u32, u16_as_u64};
+use refusal::Refusal;
 use units::{GREATEST_JITTER, GREATEST_LENGTH, LEAST_LENGTH, LINE_CAPACITY};
 
 pub fn counts_in_range(lines: u16, count: u16) -> bool
@@ -29,7 +30,7 @@ pub fn counts_in_range(lines: u16, count: u16) -> bool
 fn fields_in_range(lines: u16, link: VirtualLink) -> bool
     ensures { (n : ℕ) → n ≤ 65535 → result ≡ fields_in_range lines (view_link n link) }
 {
-    if lines <= u8_as_u16(link.line) {
+    if lines <= u16::from(link.line) {
         return false;
     }
     if 7 < link.priority {
@@ -51,102 +52,104 @@ fn fields_in_range(lines: u16, link: VirtualLink) -> bool
 }
 
 // 4, then 5. The link has so many before it, the last of them with the previous number.
-pub fn link_refusal(lines: u16, before: usize, previous: u16, number: u16, link: VirtualLink) -> u32
-    ensures { result ≡ first_met (link_checks lines (previous_of before previous) (view_link number link)) }
+pub fn check_link(
+    lines: u16,
+    before: usize,
+    previous: u16,
+    number: u16,
+    link: VirtualLink,
+) -> Result<(), Refusal>
+    ensures { number_or_0 result ≡ first_met (link_checks lines (previous_of before previous) (view_link number link)) }
 {
     if !fields_in_range(lines, link) {
-        return 4;
+        return Err(Refusal::FieldOutOfRange);
     }
     if before == 0 {
-        return 0;
+        return Ok(());
     }
     if number <= previous {
-        return 5;
+        return Err(Refusal::NumberNotRising);
     }
-    0
+    Ok(())
 }
 
 // What a link reserves: its greatest length times 2^(7 − code), a code above 7 counting as 7.
 fn reservation_of(link: VirtualLink) -> u32
     ensures { ((n : ℕ) → result ≡ reservation (view_link n link)) × (result ≤ 8388480) }
 {
-    u16_as_u32(link.greatest) << excess(7, u8_as_u64(link.code))
+    u32::from(link.greatest) << 7u8.saturating_sub(link.code)
+}
+
+// A line counts for the sums whatever the line count: each number of a u8 has its sum.
+fn line_of(link: VirtualLink) -> usize
+    ensures { (result ≡ link.line) × (result ≤ 255) }
+{
+    usize::from(link.line)
 }
 
 // 23 where a line is oversold, by what the links on each line reserve.
-fn oversold(sums: [u32; 256], lines: u16) -> u32
-    ensures { OversoldBy sums lines result }
+fn check_sums(sums: [u32; 256], lines: u16) -> Result<(), Refusal>
+    ensures { OversoldBy sums lines (number_or_0 result) }
 {
-    let n = smaller(u16_as_u64(lines), 256) as usize;
-    let mut line: usize = 0;
-    while line < n {
+    let n = usize::from(lines).min(256);
+    for line in 0..n {
         if LINE_CAPACITY < sums[line] {
-            return 23;
+            return Err(Refusal::LineOversold);
         }
-        line += 1;
     }
-    0
+    Ok(())
 }
 
 // The first check that a link of the table meets, 4 or 5; then 23.
-pub(crate) fn links_refusal(t: Table) -> u32
+pub(crate) fn check_links(t: Table) -> Result<(), Refusal>
     requires { counts_in_range t.lines t.count ≡ true }
-    ensures { result ≡ first_met (links_checks t.lines none (view_links t) ++ line_checks t.lines (view_links t)) }
+    ensures { number_or_0 result ≡ first_met (links_checks t.lines none (view_links t) ++ line_checks t.lines (view_links t)) }
 {
-    let n = t.count as usize;
+    let n = usize::from(t.count);
     let mut sums = [0u32; 256];
     let mut previous: u16 = 0;
-    let mut i: usize = 0;
-    while i < n {
+    for i in 0..n {
         let number = t.numbers[i];
         let link = t.links[i];
-        let refused = link_refusal(t.lines, i, previous, number, link);
-        if refused != 0 {
-            return refused;
-        }
-        let line = u8_as_usize(link.line);
+        check_link(t.lines, i, previous, number, link)?;
+        let line = line_of(link);
         let more = reservation_of(link);
         sums[line] += more;
         previous = number;
-        i += 1;
     }
-    oversold(sums, t.lines)
+    check_sums(sums, t.lines)
 }
 
 // What the links on each line reserve, of any table.
 pub fn reserved(t: Table) -> [u32; 256]
     ensures { SumsOf result (view_links t) }
 {
-    let n = smaller(u16_as_u64(t.count), 256) as usize;
+    let n = usize::from(t.count).min(256);
     let mut sums = [0u32; 256];
-    let mut i: usize = 0;
-    while i < n {
+    for i in 0..n {
         let link = t.links[i];
-        let on = u8_as_usize(link.line);
+        let on = line_of(link);
         let more = reservation_of(link);
         sums[on] += more;
-        i += 1;
     }
     sums
 }
 
 // 23 where a line is oversold, of any table: for those whose links were checked one by one.
-pub fn lines_refusal(t: Table) -> u32
-    ensures { result ≡ first_met (line_checks t.lines (view_links t)) }
+pub fn check_lines(t: Table) -> Result<(), Refusal>
+    ensures { number_or_0 result ≡ first_met (line_checks t.lines (view_links t)) }
 {
     let sums = reserved(t);
-    oversold(sums, t.lines)
+    check_sums(sums, t.lines)
 }
 
-pub fn sizes_refusal(sizes: [u32; 8]) -> u32
-    ensures { result ≡ first_met (size_checks sizes) }
+pub fn check_sizes(sizes: [u32; 8]) -> Result<(), Refusal>
+    ensures { number_or_0 result ≡ first_met (size_checks sizes) }
 {
-    let mut i: usize = 0;
-    while i < 8 {
-        if 16384 < sizes[i] {
-            return 6;
+    for &size in &sizes {
+        if 16384 < size {
+            return Err(Refusal::SizeOutOfRange);
         }
-        i += 1;
     }
-    0
+    Ok(())
 }

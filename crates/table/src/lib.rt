@@ -2,13 +2,15 @@
 #![tactic(auto)]
 
 pub mod checks;
+pub mod passing;
 
 ghost use Rattle.std.specs.Prelude.{◌≡◌};
 ghost use Rattle.model.specs.Link.{bag_of};
 ghost use Rattle.model.specs.Table.{blank_table, table_refusal};
+ghost use Rattle.refusal.specs.Numbers.{number_or_0};
 ghost use Rattle.table.specs.View.{blank_fields, view_table, record_table};
 
-use numbers::{smaller, u8_as_u64};
+use refusal::Refusal;
 use units::LEAST_BAG;
 
 #[derive(Clone, Copy)]
@@ -35,23 +37,19 @@ pub struct Table {
 pub fn bag(code: u8) -> u64
     ensures { result ≡ bag_of code }
 {
-    let k = smaller(u8_as_u64(code), 7);
+    let k = code.min(7);
     LEAST_BAG * (1 << k)
 }
 
-// 0, or the number of the first check that the table meets: 3, then 4 and 5 of each link, 23, 6.
-pub fn check(t: Table) -> u32
-    ensures { result ≡ table_refusal (view_table t) }
+// The first check that the table meets: 3, then 4 and 5 of each link, 23, 6.
+pub fn check(t: Table) -> Result<(), Refusal>
+    ensures { number_or_0 result ≡ table_refusal (view_table t) }
 {
     if !checks::counts_in_range(t.lines, t.count) {
-        return 3;
+        return Err(Refusal::CountOutOfRange);
     }
-    let refused = checks::links_refusal(t);
-    if refused != 0 {
-        return refused;
-    }
-    let sizes = t.sizes;
-    checks::sizes_refusal(sizes)
+    checks::check_links(t)?;
+    checks::check_sizes(t.sizes)
 }
 
 // What stands behind the count of a table that was read.

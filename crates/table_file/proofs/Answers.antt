@@ -1,4 +1,4 @@
--- The answer of the writer.
+-- The answers' numbers, and the answer of the writer.
 use mathlib.Core.Path.{◌≡◌, refl, sym, ◌∙◌}
 use mathlib.Core.List.{List, [], ◌∷◌, ◌++◌, flat_map}
 use Prim.Native.Nat.{ℕ, zero, suc, ◌+◌, ◌*◌, ◌≤◌, ◌<◌}
@@ -17,12 +17,24 @@ use Rattle.table.specs.declared.Table.{Table as TableRecord}
 use Rattle.table.specs.View.{view_links, view_table}
 use Rattle.little_endian.specs.Output.{laid}
 use Rattle.table_record_writer.specs.Records.{link_record}
-use Rattle.table_file.specs.Answers.{Wrote}
+use Rattle.refusal.specs.declared.Refusal.{Refusal}
+use Rattle.refusal.specs.Numbers.{number_or_0}
+use Rattle.table_file.specs.Answers.{reading_of, writing_of, Wrote}
+use Rattle.std.specs.Prelude.{Result, Ok, Err}
 use Rattle.table.proofs.Shape.{count_shown}
 use Rattle.table.proofs.PassingRecord.{counts_pass}
 use Rattle.table.proofs.Refusals.{stops_in_front, goes_on_behind}
 use Rattle.little_endian.proofs.Laid.{then_laid}
 use Rattle.table_record_writer.proofs.Written.{length-link_record}
+
+-- ---- the number of an answer's refusal, 0 if none
+pub told_read : (r : Result TableRecord Refusal) → (reading_of r).refused ≡ number_or_0 r
+told_read (Ok t) = refl
+told_read (Err e) = refl
+
+pub told_written : (r : Result ℕ Refusal) → (writing_of r).refused ≡ number_or_0 r
+told_written (Ok n) = refl
+told_written (Err e) = refl
 
 -- ---- refusals
 stopped : (n r : ℕ) (t : Table) (output : List ℕ) → r ≡ n → (r ≡ 0 → ⊥) → wrote_or n t output ≡ record { refused = r; written = 0; output = output }

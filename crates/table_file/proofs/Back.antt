@@ -13,11 +13,9 @@ use Rattle.model.proofs.Bytes.{AllBytes}
 use Rattle.model.proofs.FileWrite.{written_length, written_read}
 use Rattle.model.proofs.ReadBack.{read_written}
 use Rattle.table.specs.declared.Table.{Table as TableRecord}
-use Rattle.table_file.specs.declared.Reading.{Reading as ReadingRecord}
-use Rattle.table_file.specs.declared.Writing.{Writing}
 use Rattle.table.specs.View.{view_table, record_table}
 use Rattle.table.proofs.Shown.{record_shown}
-use Rattle.table_file.specs.Answers.{record_reading, Wrote}
+use Rattle.table_file.specs.Answers.{Reading as ReadingRecord, Writing, record_reading, Wrote}
 use Rattle.table_file.proofs.Answers.{accepted, not_refused_passes, not_refused_room}
 
 pub links_few : (file : List ℕ) → length (read_table file).table.links ≤ 256

@@ -13,15 +13,17 @@ use Rattle.model.specs.TableFile.{number_at, header_checks, link_read, sizes_rea
 use Rattle.model.proofs.Entries.{entries_blank, entries_next}
 use Rattle.model.proofs.Checks.{NoneMet, none_met, none_back}
 use Rattle.model.proofs.TableFacts.{counts_fit}
+use Rattle.std.specs.Prelude.{Err}
+use Rattle.refusal.specs.declared.Refusal.{Refusal}
+use Rattle.refusal.specs.Numbers.{number_of}
 use Rattle.table.specs.declared.VirtualLink.{VirtualLink as LinkFields}
 use Rattle.table_record_reader.specs.declared.Record.{Record}
-use Rattle.table_record_reader.specs.declared.Record.TheVariants.{Counts, Link, Sizes}
-use Rattle.table_file.specs.declared.Reading.{Reading as ReadingRecord}
+use Rattle.table_record_reader.specs.declared.Record.TheVariants.{Counts, Link, Sizes, Refused}
 use Rattle.table.specs.Checks.{previous_of}
 use Rattle.table.specs.View.{view_link, record_link, blank_fields, view_links, view_table, record_table}
 use Rattle.table_record_reader.specs.Records.{Said, saying, link_values, said, said_or, counts_due, link_due, sizes_due, due_at}
-use Rattle.table_file.specs.Answers.{record_reading}
-use Rattle.table_file.specs.Steps.{no_table}
+use Rattle.table_file.specs.Answers.{Reading as ReadingRecord, reading_of, record_reading}
+use Rattle.refusal.proofs.Numbers.{number_not_0}
 use Rattle.table.proofs.Refusals.{previous_more}
 use Rattle.table.proofs.Shown.{record_shown}
 use Rattle.table_record_reader.proofs.Due.{due_counts, due_link, due_sizes}
@@ -39,6 +41,32 @@ said_stops s next (suc n) e z = (λ q. omega arith, ap (λ (u : Said). u.refused
 
 said_kind : (s next : Said) (n : ℕ) → s ≡ said_or n next → (s.kind ≡ 0 → ⊥) → s.kind ≡ next.kind
 said_kind s next n e z = ap (λ (u : Said). u.kind) (said_goes s next n e z).1
+
+-- a record that is not of the kind due is of none
+kind_none : (k due : ℕ) → ((k ≡ 0 → ⊥) → k ≡ due) → (k ≡ due → ⊥) → k ≡ 0
+kind_none zero due f o = refl
+kind_none (suc k) due f o = absurd (o (f (λ q. omega arith)))
+
+not_counts : (x : Record) → ((lines n : ℕ) → x ≡ Counts lines n → ⊥) → (said x).kind ≡ 1 → ⊥
+unfolding said
+not_counts (Counts lines n) o k = o lines n refl
+not_counts (Link number v) o k = omega arith
+not_counts (Sizes sizes) o k = omega arith
+not_counts (Refused r) o k = omega arith
+
+not_link : (x : Record) → ((number : ℕ) (v : LinkFields) → x ≡ Link number v → ⊥) → (said x).kind ≡ 2 → ⊥
+unfolding said
+not_link (Counts lines n) o k = omega arith
+not_link (Link number v) o k = o number v refl
+not_link (Sizes sizes) o k = omega arith
+not_link (Refused r) o k = omega arith
+
+not_sizes : (x : Record) → ((sizes : List ℕ) → x ≡ Sizes sizes → ⊥) → (said x).kind ≡ 3 → ⊥
+unfolding said
+not_sizes (Counts lines n) o k = omega arith
+not_sizes (Link number v) o k = omega arith
+not_sizes (Sizes sizes) o k = o sizes refl
+not_sizes (Refused r) o k = omega arith
 
 -- ---- where the reader stops
 stop_is : (n : ℕ) (next : Reading) → (n ≡ 0 → ⊥) → stop_or n next ≡ record { refused = n; table = blank_table }
@@ -92,13 +120,17 @@ module _ (file : List ℕ) where
   unfolding counts_due counts_met count_record_checks
   counts_said = due_counts file 0 0 0 0 refl
 
-  pub counts_stop : (x : Record) (m : ℕ) (a : ReadingRecord) → said x ≡ due_at file 0 0 0 0 → ((said x).kind ≡ 1 → ⊥) → m ≡ (said x).refused →
+  counts_stop : (x : Record) (m : ℕ) (a : ReadingRecord) → said x ≡ due_at file 0 0 0 0 → ((said x).kind ≡ 1 → ⊥) → m ≡ (said x).refused →
       a ≡ record { refused = m; table = record_table blank_table } → a ≡ record_reading (read_table file)
   counts_stop x m a e o p f =
       stopped (read_table file) counts_met m after_counts (said x) (saying 1 (number_at 4 2 file ∷ number_at 6 2 file ∷ [])) a counts_step_lem (e ∙ counts_said) o p f
 
-  pub counts_kind : (x : Record) → said x ≡ due_at file 0 0 0 0 → ((said x).kind ≡ 0 → ⊥) → (said x).kind ≡ 1
+  counts_kind : (x : Record) → said x ≡ due_at file 0 0 0 0 → ((said x).kind ≡ 0 → ⊥) → (said x).kind ≡ 1
   counts_kind x e z = said_kind (said x) (saying 1 (number_at 4 2 file ∷ number_at 6 2 file ∷ [])) counts_met (e ∙ counts_said) z
+
+  pub counts_refused : (x : Record) (r : Refusal) → said x ≡ due_at file 0 0 0 0 → ((lines n : ℕ) → x ≡ Counts lines n → ⊥) → ((said x).kind ≡ 0 → number_of r ≡ (said x).refused) →
+      reading_of (Err r) ≡ record_reading (read_table file)
+  counts_refused x r e o q = let z = not_counts x o in counts_stop x (number_of r) (reading_of (Err r)) e z (q (kind_none (said x).kind 1 (counts_kind x e) z)) refl
 
   counts_pass : counts_met ≡ 0 → NoneMet (header_checks 1 6 file ++ count_checks (number_at 4 2 file) (number_at 6 2 file))
   unfolding counts_met count_record_checks header_checks
@@ -181,14 +213,14 @@ module _ (lines : ℕ) (previous : Option ℕ) (rest : List ℕ) where
     fields_are = ap fields_among link_same
 
 module _ {file : List ℕ} {lines count : ℕ} {numbers : List ℕ} {links : List LinkFields} {previous : ℕ} {rest : List ℕ} {read : ℕ}
-    (s : SoFar file lines count numbers links previous rest read) (x : Record) (e : said x ≡ due_at rest read count lines previous) where
+    (s : SoFar file lines count numbers links previous rest read) where
   not_first : read ≡ 0 → ⊥
   not_first q = omega (arith, s.before)
 
   index : length s.found ≡ read - 1
   index = omega (arith, s.before)
 
-  module _ (h : read ≤ count) where
+  module _ (x : Record) (e : said x ≡ due_at rest read count lines previous) (h : read ≤ count) where
     said_link : said x ≡ link_due lines (previous_of (read - 1) previous) rest
     said_link = e ∙ due_link rest read count lines previous not_first h
 
@@ -199,14 +231,17 @@ module _ {file : List ℕ} {lines count : ℕ} {numbers : List ℕ} {links : Lis
         let k : count - length s.found ≡ suc (count - read) = omega (arith, index) in
         s.left ∙ rw k (link_step_lem lines (previous_of (read - 1) previous) rest (count - read) s.found)
 
-    pub link_stop : (m : ℕ) (a : ReadingRecord) → ((said x).kind ≡ 2 → ⊥) → m ≡ (said x).refused → a ≡ record { refused = m; table = record_table blank_table } →
+    link_stop : (m : ℕ) (a : ReadingRecord) → ((said x).kind ≡ 2 → ⊥) → m ≡ (said x).refused → a ≡ record { refused = m; table = record_table blank_table } →
         a ≡ record_reading (read_table file)
     link_stop m a o p f =
         stopped (read_table file) (link_met lines (previous_of (read - 1) previous) rest) m _ (said x) (saying 2 (link_values (link_read rest))) a next_link_lem
         (said_link ∙ link_said lines (previous_of (read - 1) previous) rest) o p f
 
-    pub link_kind : ((said x).kind ≡ 0 → ⊥) → (said x).kind ≡ 2
+    link_kind : ((said x).kind ≡ 0 → ⊥) → (said x).kind ≡ 2
     link_kind z = said_kind (said x) (saying 2 (link_values (link_read rest))) (link_met lines (previous_of (read - 1) previous) rest) (said_link ∙ link_said lines (previous_of (read - 1) previous) rest) z
+
+    pub link_refused : (r : Refusal) → ((number : ℕ) (v : LinkFields) → x ≡ Link number v → ⊥) → ((said x).kind ≡ 0 → number_of r ≡ (said x).refused) → reading_of (Err r) ≡ record_reading (read_table file)
+    link_refused r o q = let z = not_link x o in link_stop (number_of r) (reading_of (Err r)) z (q (kind_none (said x).kind 2 link_kind z)) refl
 
     module _ (number : ℕ) (v : LinkFields) (q : x ≡ Link number v) where
       number_here : number ≡ (link_read rest).number
@@ -224,16 +259,16 @@ module _ {file : List ℕ} {lines count : ℕ} {numbers : List ℕ} {links : Lis
       longer : length (s.found ++ (link_read rest ∷ [])) ≡ read
       longer = length-append s.found (link_read rest ∷ []) ∙ s.before
 
-      pub link_go : SoFar file lines count (set numbers (read - 1) number) (set links (read - 1) v) number (drop 18 rest) (read + 1)
-      link_go =
+      pub link_go : (i : ℕ) → i ≡ read - 1 → SoFar file lines count (set numbers i number) (set links i v) number (drop 18 rest) (read + 1)
+      link_go i at =
           let same : read + 1 - 1 ≡ read - 1 + 1 = omega (arith, s.before) in
           record {
             few = s.few;
             found = s.found ++ (link_read rest ∷ []);
             before = rw longer;
             within = omega arith;
-            numbered = rw (s.numbered, ← index, number_here) (entries_more 0 (λ (u : VirtualLink). u.number) 256 s.found (link_read rest) (omega (arith, s.few, index)));
-            filled = rw (s.filled, ← index, fields_here) (entries_more blank_fields record_link 256 s.found (link_read rest) (omega (arith, s.few, index)));
+            numbered = rw (at, s.numbered, ← index, number_here) (entries_more 0 (λ (u : VirtualLink). u.number) 256 s.found (link_read rest) (omega (arith, s.few, index)));
+            filled = rw (at, s.filled, ← index, fields_here) (entries_more blank_fields record_link 256 s.found (link_read rest) (omega (arith, s.few, index)));
             left = rw (longer, same, previous_more, number_here) further;
           }
 
@@ -252,7 +287,7 @@ module _ {file : List ℕ} {lines count : ℕ} {numbers : List ℕ} {links : Lis
     all_found = omega (arith, s.before, s.within)
 
     -- the links that were read are those of the record that holds them
-    pub found_shown : (sizes : List ℕ) → view_links (record { lines = lines; count = count; numbers = numbers; links = links; sizes = sizes }) ≡ s.found
+    found_shown : (sizes : List ℕ) → view_links (record { lines = lines; count = count; numbers = numbers; links = links; sizes = sizes }) ≡ s.found
     unfolding view_table record_table
     found_shown sizes =
         let shown : view_links (record_table (record { lines = lines; links = s.found; sizes = sizes })) ≡ s.found =
@@ -263,34 +298,48 @@ module _ {file : List ℕ} {lines count : ℕ} {numbers : List ℕ} {links : Lis
     unfolding read_links read_sizes sizes_met table_read sizes_record_checks
     lines_step = let k : count - length s.found ≡ 0 = omega (arith, all_found) in s.left ∙ rw k refl
 
-    pub sold_stop : (o : ℕ) → o ≡ first_met (line_checks lines s.found) → (o ≡ 0 → ⊥) → no_table o ≡ record_reading (read_table file)
+    sold_stop : (o : ℕ) → o ≡ first_met (line_checks lines s.found) → (o ≡ 0 → ⊥) → ◌≡◌ {A = ReadingRecord} (record { refused = o; table = record_table blank_table }) (record_reading (read_table file))
     sold_stop o q z = ap record_reading (sym (lines_step ∙ rw (← q) (stop_is o (stop_or sizes_met table_read) z)))
 
-    said_sizes : said x ≡ said_or sizes_met (saying 3 (sizes_read rest))
-    unfolding sizes_due sizes_met sizes_record_checks
-    said_sizes = e ∙ due_sizes rest read count lines previous not_first h
+    -- 23, by what the links reserve that were read
+    pub sold_refused : (r : Refusal) (sizes : List ℕ) → number_of r ≡ first_met (line_checks lines (view_links (record { lines = lines; count = count; numbers = numbers; links = links; sizes = sizes }))) →
+        reading_of (Err r) ≡ record_reading (read_table file)
+    sold_refused r sizes q = sold_stop (number_of r) (q ∙ ap (λ l. first_met (line_checks lines l)) (found_shown sizes)) (number_not_0 r)
 
-    module _ (none_sold : first_met (line_checks lines s.found) ≡ 0) where
-      sizes_step : read_table file ≡ stop_or sizes_met table_read
-      sizes_step = lines_step ∙ go_is sold_met (stop_or sizes_met table_read) none_sold
+    pub none_sold_found : (sizes : List ℕ) → 0 ≡ first_met (line_checks lines (view_links (record { lines = lines; count = count; numbers = numbers; links = links; sizes = sizes }))) → first_met (line_checks lines s.found) ≡ 0
+    none_sold_found sizes q = sym (q ∙ ap (λ l. first_met (line_checks lines l)) (found_shown sizes))
 
-      pub sizes_stop : (m : ℕ) (a : ReadingRecord) → ((said x).kind ≡ 3 → ⊥) → m ≡ (said x).refused → a ≡ no_table m → a ≡ record_reading (read_table file)
-      sizes_stop m a o p f = stopped (read_table file) sizes_met m table_read (said x) (saying 3 (sizes_read rest)) a sizes_step said_sizes o p f
+    module _ (x : Record) (e : said x ≡ due_at rest read count lines previous) where
+      said_sizes : said x ≡ said_or sizes_met (saying 3 (sizes_read rest))
+      unfolding sizes_due sizes_met sizes_record_checks
+      said_sizes = e ∙ due_sizes rest read count lines previous not_first h
 
-      module _ (a b c d f g i j : ℕ) (q : x ≡ Sizes a b c d f g i j) where
-        kind_three : (said x).kind ≡ 0 → ⊥
-        unfolding said
-        kind_three k = let z : ◌≡◌ {A = ℕ} 3 0 = sym (ap (λ (y : Record). (said y).kind) q) ∙ k in omega arith
+      module _ (none_sold : first_met (line_checks lines s.found) ≡ 0) where
+        sizes_step : read_table file ≡ stop_or sizes_met table_read
+        sizes_step = lines_step ∙ go_is sold_met (stop_or sizes_met table_read) none_sold
 
-        sizes_parts : (sizes_met ≡ 0) × (said x ≡ saying 3 (sizes_read rest))
-        sizes_parts = said_goes (said x) (saying 3 (sizes_read rest)) sizes_met said_sizes kind_three
+        sizes_stop : (m : ℕ) (a : ReadingRecord) → ((said x).kind ≡ 3 → ⊥) → m ≡ (said x).refused → a ≡ record { refused = m; table = record_table blank_table } → a ≡ record_reading (read_table file)
+        sizes_stop m a o p f = stopped (read_table file) sizes_met m table_read (said x) (saying 3 (sizes_read rest)) a sizes_step said_sizes o p f
 
-        sizes_same : a ∷ b ∷ c ∷ d ∷ f ∷ g ∷ i ∷ j ∷ [] ≡ sizes_read rest
-        unfolding said
-        sizes_same = ap (λ (u : Said). u.values) (sym (ap said q) ∙ sizes_parts.1)
+        pub sizes_refused : (r : Refusal) → ((sizes : List ℕ) → x ≡ Sizes sizes → ⊥) → ((said x).kind ≡ 0 → number_of r ≡ (said x).refused) → reading_of (Err r) ≡ record_reading (read_table file)
+        sizes_refused r o q =
+            let z = not_sizes x o in
+            sizes_stop (number_of r) (reading_of (Err r)) z (q (kind_none (said x).kind 3 (said_kind (said x) (saying 3 (sizes_read rest)) sizes_met said_sizes) z)) refl
 
-        pub read_whole : ◌≡◌ {A = ReadingRecord}
-            (record { refused = 0; table = record { lines = lines; count = count; numbers = numbers; links = links; sizes = a ∷ b ∷ c ∷ d ∷ f ∷ g ∷ i ∷ j ∷ [] } })
-            (record_reading (read_table file))
-        unfolding record_table table_read
-        read_whole = rw (sizes_step ∙ go_is sizes_met table_read sizes_parts.0, sizes_same, all_found, s.numbered, s.filled)
+        module _ (sizes : List ℕ) (q : x ≡ Sizes sizes) where
+          kind_three : (said x).kind ≡ 0 → ⊥
+          unfolding said
+          kind_three k = let z : ◌≡◌ {A = ℕ} 3 0 = sym (ap (λ (y : Record). (said y).kind) q) ∙ k in omega arith
+
+          sizes_parts : (sizes_met ≡ 0) × (said x ≡ saying 3 (sizes_read rest))
+          sizes_parts = said_goes (said x) (saying 3 (sizes_read rest)) sizes_met said_sizes kind_three
+
+          sizes_same : sizes ≡ sizes_read rest
+          unfolding said
+          sizes_same = ap (λ (u : Said). u.values) (sym (ap said q) ∙ sizes_parts.1)
+
+          pub read_whole : ◌≡◌ {A = ReadingRecord}
+              (record { refused = 0; table = record { lines = lines; count = count; numbers = numbers; links = links; sizes = sizes } })
+              (record_reading (read_table file))
+          unfolding record_table table_read
+          read_whole = rw (sizes_step ∙ go_is sizes_met table_read sizes_parts.0, sizes_same, all_found, s.numbered, s.filled)

@@ -1,11 +1,13 @@
 // The walk over the table file: the bytes not yet read, and the number of records read.
 ghost use Rattle.std.specs.Prelude.{◌≡◌, ◌+◌, ◌<◌, ◌^◌, drop};
 ghost use Rattle.model.specs.TableFile.{read_table};
+ghost use Rattle.refusal.specs.Numbers.{number_of};
 ghost use Rattle.table_record_reader.specs.Records.{said, due_at};
-ghost use Rattle.table_file.specs.Answers.{record_reading};
+ghost use Rattle.table_file.specs.Answers.{reading_of, record_reading};
 
-use crate::{Reading, steps};
-use table_record_reader::Record;
+use refusal::Refusal;
+use table::{Table, checks};
+use table_record_reader::{Record, refusal_of};
 
 #[derive(Clone, Copy)]
 pub(crate) struct Walk<'a> {
@@ -13,59 +15,76 @@ pub(crate) struct Walk<'a> {
     pub(crate) read: usize,
 }
 
-// What is left once some bytes are taken.
-fn after<'a>(rest: &'a [u8], taken: usize) -> &'a [u8]
-    ensures { result.now ≡ drop taken rest.now }
-{
-    if taken <= rest.len() {
-        return &rest[taken..];
-    }
-    let len = rest.len();
-    &rest[len..]
-}
-
-fn start<'a>(file: &'a [u8]) -> Walk<'a>
-    ensures { (result.rest ≡ file.entry) × (result.read ≡ 0) }
-{
-    Walk {
-        rest: file,
-        read: 0,
-    }
-}
-
-fn next<'a>(w: Walk<'a>, count: u16, lines: u16, previous: u16) -> Record
-    ensures { said result ≡ due_at w.entry.rest.now w.entry.read count lines previous }
-{
-    table_record_reader::record_at(w.rest, w.read, count, lines, previous)
-}
-
-fn advanced<'a>(w: Walk<'a>, taken: usize) -> Walk<'a>
-    requires { w.read + 1 < 2 ^ 64 }
-    ensures { (result.rest.now ≡ drop taken w.entry.rest.now) × (result.read ≡ w.entry.read + 1) }
-{
-    let rest = after(w.rest, taken);
-    Walk {
-        rest,
-        read: w.read + 1,
-    }
-}
-
-// The table of a file: the loop's state is the walk and what was taken in last. Callers need no walk.
-pub(crate) fn read(file: &[u8]) -> Reading
-    ensures { result ≡ record_reading (read_table file.now) }
-{
-    let mut step = steps::first_step();
-    let mut numbers = [0u16; 256];
-    let mut links = [step.link; 256];
-    let mut w = start(file);
-    loop {
-        let record = next(w, step.count, step.lines, step.number);
-        step = steps::taken_in(record, w.read, step);
-        if step.taken == 0 {
-            return steps::ended(record, step, numbers, links);
+impl<'a> Walk<'a> {
+    fn start(file: &'a [u8]) -> Walk<'a>
+        ensures { (result.rest ≡ file.entry) × (result.read ≡ 0) }
+    {
+        Walk {
+            rest: file,
+            read: 0,
         }
-        numbers[step.at] = step.number;
-        links[step.at] = step.link;
-        w = advanced(w, step.taken);
     }
+
+    fn next(self, count: u16, lines: u16, previous: u16) -> Record
+        ensures { said result ≡ due_at self.entry.rest.now self.entry.read count lines previous }
+    {
+        table_record_reader::record_at(self.rest, self.read, count, lines, previous)
+    }
+
+    fn advanced(self, taken: usize) -> Walk<'a>
+        requires { self.read + 1 < 2 ^ 64 }
+        ensures { (result.rest.now ≡ drop taken self.entry.rest.now) × (result.read ≡ self.entry.read + 1) }
+    {
+        Walk {
+            rest: &self.rest[taken.min(self.rest.len())..],
+            read: self.read + 1,
+        }
+    }
+}
+
+// A record of another kind counts as one that is not due; `record_at` answers none.
+fn refused(next: Record) -> Refusal
+    ensures { (said next).kind ≡ 0 → number_of result ≡ (said next).refused }
+{
+    refusal_of(next).unwrap_or(Refusal::NotDue)
+}
+
+// The counts, so many links, 23, and the sizes.
+pub(crate) fn read(file: &[u8]) -> Result<Table, Refusal>
+    ensures { reading_of result ≡ record_reading (read_table file.now) }
+{
+    let mut w = Walk::start(file);
+    let first = w.next(0, 0, 0);
+    let Record::Counts(lines, count) = first else {
+        return Err(refused(first));
+    };
+    w = w.advanced(8);
+    let n = usize::from(count);
+    let mut numbers = [0u16; 256];
+    let mut links = [table::blank_link(); 256];
+    let mut previous: u16 = 0;
+    for i in 0..n {
+        let record = w.next(count, lines, previous);
+        let Record::Link(number, link) = record else {
+            return Err(refused(record));
+        };
+        numbers[i] = number;
+        links[i] = link;
+        previous = number;
+        w = w.advanced(18);
+    }
+    let mut t = Table {
+        lines,
+        count,
+        numbers,
+        links,
+        sizes: [0u32; 8],
+    };
+    checks::check_lines(t)?;
+    let last = w.next(count, lines, previous);
+    let Record::Sizes(sizes) = last else {
+        return Err(refused(last));
+    };
+    t.sizes = sizes;
+    Ok(t)
 }

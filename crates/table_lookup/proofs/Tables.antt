@@ -1,7 +1,7 @@
 -- A table record that passes: its links have its numbers, which rise, so that a lookup may search them.
 use mathlib.Core.Path.{◌≡◌, ap}
 use mathlib.Core.List.{List}
-use Prim.Native.Nat.{ℕ, ◌≤◌, ◌<◌}
+use Prim.Native.Nat.{ℕ, ◌≤◌}
 use native.Mathlib.Omega.{arith}
 use lib.ListN.{length}
 use Rattle.model.specs.Link.{VirtualLink}
@@ -23,8 +23,8 @@ module _ (t : TableRecord) (e : table_refusal (view_table t) ≡ 0) where
   pub links_named : Named t.numbers t.count (view_links t)
   links_named = record { count = count_shown t; number = λ i l. ap (λ (v : VirtualLink). v.number) (entry_is t e i l) }
 
-  pub searchable : length t.numbers ≡ 256 → (0 < t.count) × (t.count ≤ length t.numbers) × Rising t.numbers t.count
+  pub searchable : length t.numbers ≡ 256 → (t.count ≤ length t.numbers) × Rising t.numbers t.count
   unfolding view_table
   searchable n =
       let c = counts_pass t e in
-      (c.some_link, omega (arith, c.links_most), named_rise t.numbers t.count (view_links t) links_named (is_passing (view_table t) e).rising)
+      (omega (arith, c.links_most), named_rise t.numbers t.count (view_links t) links_named (is_passing (view_table t) e).rising)

@@ -1,17 +1,19 @@
 -- The cases of the record that was answered.
-use mathlib.Core.Path.{◌≡◌, refl}
-use Prim.Native.Nat.{ℕ}
+use mathlib.Core.Path.{◌≡◌, sym}
+use native.Mathlib.Omega.{arith}
+use Rattle.std.specs.Prelude.{Option, None, Some, unwrap_or}
+use Rattle.refusal.specs.declared.Refusal.{Refusal}
+use Rattle.refusal.specs.Numbers.{number_of}
+use Rattle.refusal.proofs.Numbers.{number_not_0}
 use Rattle.table_record_reader.specs.declared.Record.{Record}
 use Rattle.table_record_reader.specs.declared.Record.TheVariants.{Counts, Link, Sizes, Refused}
-use Rattle.table_record_reader.specs.Records.{said}
+use Rattle.table_record_reader.specs.Records.{said, refusal_said}
 
-pub not_refused : (x : Record) → ((n : ℕ) → x ≡ Refused n → ⊥) → 0 ≡ (said x).refused
+-- where no record was answered, its refusal, whatever stands in for that of a record
+pub refusal_here : (o : Option Refusal) (x : Record) (other : Refusal) → refusal_said o ≡ (said x).refused → (said x).kind ≡ 0 → number_of (unwrap_or o other) ≡ (said x).refused
 unfolding said
-not_refused (Counts lines n) o = refl
-not_refused (Link number v) o = refl
-not_refused (Sizes a b c d e f g h) o = refl
-not_refused (Refused n) o = absurd (o n refl)
-
-pub refused_number : (x : Record) (n : ℕ) → x ≡ Refused n → n ≡ (said x).refused
-unfolding said
-refused_number x n e = rw e
+refusal_here (Some s) x other e k = e
+refusal_here None (Refused s) other e k = absurd (number_not_0 s (sym e))
+refusal_here None (Counts lines n) other e k = absurd (omega arith)
+refusal_here None (Link number v) other e k = absurd (omega arith)
+refusal_here None (Sizes sizes) other e k = absurd (omega arith)

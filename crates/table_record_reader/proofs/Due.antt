@@ -3,53 +3,30 @@ use mathlib.Core.Path.{◌≡◌, refl, sym, ap, ◌∙◌}
 use mathlib.Core.Bool.{true, false, not}
 use mathlib.Core.Option.{Option}
 use mathlib.Core.List.{List, [], ◌∷◌, ◌++◌, append_assoc}
-use Prim.Native.Nat.{ℕ, zero, suc, ◌+◌, ◌-◌, ◌≤◌, ◌<◌}
+use Prim.Native.Nat.{ℕ, zero, suc, ◌-◌, ◌≤◌, ◌<◌}
 use native.Mathlib.Omega.{arith}
 use lib.Dec.{eqb, ltb}
 use borrow.Author.Tests.{lt-ltb, le-ltb, eq-eqb, ne_eqb, le-leb, lt-leb}
-use lib.ListN.{length, get_or}
+use lib.ListN.{length}
 use Rattle.model.specs.Basics.{Check, check, first_met}
 use Rattle.model.specs.Table.{counts_in_range, count_checks, link_checks, size_checks}
 use Rattle.model.specs.TableFile.{number_at, header_checks, link_read, sizes_read, count_record_checks, link_record_checks, sizes_record_checks}
 use Rattle.model.proofs.Checks.{Numbered}
 use Rattle.table.specs.declared.VirtualLink.{VirtualLink as LinkFields}
-use Rattle.table_record_reader.specs.declared.Record.TheVariants.{Counts, Link, Sizes, Refused}
+use Rattle.table_record_reader.specs.declared.Record.TheVariants.{Counts, Link, Sizes}
 use Rattle.table.specs.Checks.{previous_of}
 use Rattle.table.specs.View.{view_link, record_link}
-use Rattle.table_record_reader.specs.Records.{Said, saying, link_values, said, said_or, counts_due, link_due, sizes_due, due_at}
+use Rattle.table_record_reader.specs.Records.{Said, saying, refusing, link_values, said, said_or, counts_due, link_due, sizes_due, due_at}
 use Rattle.table.proofs.Refusals.{stops_in_front, goes_on_behind}
 
 -- ---- the header
 module _ (kind len : ℕ) (rest : List ℕ) where
-  pub header_numbered : Numbered (header_checks kind len rest)
+  header_numbered : Numbered (header_checks kind len rest)
   unfolding header_checks
   header_numbered = omega arith
 
-  pub header_short : length rest < 4 → 1 ≡ first_met (header_checks kind len rest)
-  unfolding header_checks first_met
-  header_short h = rw (lt-ltb (length rest) 4 h)
-
-  module _ (h : 4 ≤ length rest) where
-    pub length_other : (number_at 0 2 rest ≡ len → ⊥) → 2 ≡ first_met (header_checks kind len rest)
-    unfolding header_checks first_met
-    length_other z = rw (le-ltb (length rest) 4 h, ne_eqb (number_at 0 2 rest) len z)
-
-    module _ (e : number_at 0 2 rest ≡ len) where
-      pub kind_other : (number_at 2 2 rest ≡ kind → ⊥) → 2 ≡ first_met (header_checks kind len rest)
-      unfolding header_checks first_met
-      kind_other z = rw (le-ltb (length rest) 4 h, eq-eqb (number_at 0 2 rest) len e, ne_eqb (number_at 2 2 rest) kind z)
-
-      module _ (f : number_at 2 2 rest ≡ kind) where
-        pub body_short : length rest < 2 + len → 1 ≡ first_met (header_checks kind len rest)
-        unfolding header_checks first_met
-        body_short k = rw (le-ltb (length rest) 4 h, eq-eqb (number_at 0 2 rest) len e, eq-eqb (number_at 2 2 rest) kind f, lt-ltb (length rest) (2 + len) k)
-
-        pub header_due : 2 + len ≤ length rest → 0 ≡ first_met (header_checks kind len rest)
-        unfolding header_checks first_met
-        header_due k = rw (le-ltb (length rest) 4 h, eq-eqb (number_at 0 2 rest) len e, eq-eqb (number_at 2 2 rest) kind f, le-ltb (length rest) (2 + len) k)
-
 -- ---- a refusal, or the record
-said_refused : (n r : ℕ) (next : Said) → r ≡ n → (r ≡ 0 → ⊥) → said (Refused r) ≡ said_or n next
+said_refused : (n r : ℕ) (next : Said) → r ≡ n → (r ≡ 0 → ⊥) → refusing r ≡ said_or n next
 unfolding said said_or
 said_refused zero r next e z = absurd (z e)
 said_refused (suc n) r next e z = rw e
@@ -64,7 +41,7 @@ module _ (rest : List ℕ) (r : ℕ) (e : r ≡ first_met (header_checks 1 6 res
   counts : List Check
   counts = count_checks (number_at 4 2 rest) (number_at 6 2 rest)
 
-  pub counts_header : (r ≡ 0 → ⊥) → said (Refused r) ≡ counts_due rest
+  pub counts_header : (r ≡ 0 → ⊥) → refusing r ≡ counts_due rest
   unfolding counts_due count_record_checks counts
   counts_header z = said_refused (first_met (header_checks 1 6 rest ++ counts)) r _ (stops_in_front (header_checks 1 6 rest) counts (header_numbered 1 6 rest) r e z) z
 
@@ -81,7 +58,7 @@ module _ (rest : List ℕ) (r : ℕ) (e : r ≡ first_met (header_checks 1 6 res
     unfolding first_met
     in_none b = rw b
 
-    pub counts_out : counts_in_range lines n ≡ false → said (Refused 3) ≡ counts_due rest
+    pub counts_out : counts_in_range lines n ≡ false → refusing 3 ≡ counts_due rest
     unfolding counts_due count_record_checks counts
     counts_out b = said_refused (first_met (header_checks 1 6 rest ++ counts)) 3 _ (out_met b ∙ sym behind) (λ q. omega arith)
 
@@ -90,14 +67,6 @@ module _ (rest : List ℕ) (r : ℕ) (e : r ≡ first_met (header_checks 1 6 res
     counts_in b = rw (el, en) (said_next (first_met (header_checks 1 6 rest ++ counts)) (saying 1 (number_at 4 2 rest ∷ number_at 6 2 rest ∷ [])) (behind ∙ in_none b))
 
 -- ---- a link
-pub fields_read : (rest : List ℕ) (line priority code least greatest jitter : ℕ) → line ≡ number_at 6 1 rest → priority ≡ number_at 7 1 rest → code ≡ number_at 8 1 rest →
-    least ≡ number_at 10 2 rest → greatest ≡ number_at 12 2 rest → jitter ≡ number_at 14 4 rest →
-    ◌≡◌ {A = LinkFields}
-    (record { line = line; priority = priority; code = code; least = least; greatest = greatest; jitter = jitter })
-    (record_link (link_read rest))
-unfolding link_read
-fields_read rest line priority code least greatest jitter a b c d e f = rw (a, b, c, d, e, f)
-
 link_whole : (rest : List ℕ) (number : ℕ) (v : LinkFields) → number ≡ number_at 4 2 rest → v ≡ record_link (link_read rest) → view_link number v ≡ link_read rest
 unfolding link_read
 link_whole rest number v a b = rw (a, b)
@@ -109,7 +78,7 @@ module _ (lines : ℕ) (previous : Option ℕ) (rest : List ℕ) (r : ℕ) (e : 
   body : List Check
   body = check 4 (not (eqb (number_at 9 1 rest) 0)) ∷ link_checks lines previous (link_read rest)
 
-  pub link_header : (r ≡ 0 → ⊥) → said (Refused r) ≡ link_due lines previous rest
+  pub link_header : (r ≡ 0 → ⊥) → refusing r ≡ link_due lines previous rest
   unfolding link_due link_record_checks body
   link_header z = said_refused (first_met (header_checks 2 16 rest ++ body)) r _ (stops_in_front (header_checks 2 16 rest) body (header_numbered 2 16 rest) r e z) z
 
@@ -121,7 +90,7 @@ module _ (lines : ℕ) (previous : Option ℕ) (rest : List ℕ) (r : ℕ) (e : 
     unfolding body first_met
     byte_met w = rw (ne_eqb (number_at 9 1 rest) 0 w)
 
-    pub byte_set : (number_at 9 1 rest ≡ 0 → ⊥) → said (Refused 4) ≡ link_due lines previous rest
+    pub byte_set : (number_at 9 1 rest ≡ 0 → ⊥) → refusing 4 ≡ link_due lines previous rest
     unfolding link_due link_record_checks body
     byte_set w = said_refused (first_met (header_checks 2 16 rest ++ body)) 4 _ (byte_met w ∙ sym behind_header) (λ q. omega arith)
 
@@ -132,7 +101,7 @@ module _ (lines : ℕ) (previous : Option ℕ) (rest : List ℕ) (r : ℕ) (e : 
       behind_byte =
           f ∙ sym (behind_header ∙ rw (eq-eqb (number_at 9 1 rest) 0 w) (ap (λ u. first_met (link_checks lines previous u)) (sym (link_whole rest number v a b))))
 
-      pub link_out : (s ≡ 0 → ⊥) → said (Refused s) ≡ link_due lines previous rest
+      pub link_out : (s ≡ 0 → ⊥) → refusing s ≡ link_due lines previous rest
       unfolding link_due link_record_checks body
       link_out y = said_refused (first_met (header_checks 2 16 rest ++ body)) s _ behind_byte y
 
@@ -141,11 +110,6 @@ module _ (lines : ℕ) (previous : Option ℕ) (rest : List ℕ) (r : ℕ) (e : 
       link_in y = ap (λ u. saying 2 (link_values u)) (link_whole rest number v a b) ∙ said_next (first_met (header_checks 2 16 rest ++ body)) (saying 2 (link_values (link_read rest))) (sym behind_byte ∙ y)
 
 -- ---- sizes
-pub sizes_are : (rest : List ℕ) (a b c d e f g h : ℕ) → a ≡ number_at 4 4 rest → b ≡ number_at 8 4 rest → c ≡ number_at 12 4 rest → d ≡ number_at 16 4 rest →
-    e ≡ number_at 20 4 rest → f ≡ number_at 24 4 rest → g ≡ number_at 28 4 rest → h ≡ number_at 32 4 rest → a ∷ b ∷ c ∷ d ∷ e ∷ f ∷ g ∷ h ∷ [] ≡ sizes_read rest
-unfolding sizes_read
-sizes_are rest a b c d e f g h pa pb pc pd pe pf pg ph = rw (pa, pb, pc, pd, pe, pf, pg, ph)
-
 module _ (rest : List ℕ) (r : ℕ) (e : r ≡ first_met (header_checks 3 34 rest)) where
   left : List Check
   left = check 7 (ltb 36 (length rest)) ∷ []
@@ -157,7 +121,7 @@ module _ (rest : List ℕ) (r : ℕ) (e : r ≡ first_met (header_checks 3 34 re
   unfolding all_checks_lem
   regroup = append_assoc (header_checks 3 34 rest) (size_checks (sizes_read rest)) left
 
-  pub sizes_header : (r ≡ 0 → ⊥) → said (Refused r) ≡ sizes_due rest
+  pub sizes_header : (r ≡ 0 → ⊥) → refusing r ≡ sizes_due rest
   unfolding sizes_due sizes_record_checks all_checks_lem left
   sizes_header z =
       said_refused (first_met all_checks_lem) r _ (rw regroup (stops_in_front (header_checks 3 34 rest) (size_checks (sizes_read rest) ++ left) (header_numbered 3 34 rest) r e z)) z
@@ -169,7 +133,7 @@ module _ (rest : List ℕ) (r : ℕ) (e : r ≡ first_met (header_checks 3 34 re
     behind_header3 : first_met all_checks_lem ≡ first_met (size_checks (sizes_read rest) ++ left)
     behind_header3 = rw regroup (goes_on_behind (header_checks 3 34 rest) (size_checks (sizes_read rest) ++ left) (header_numbered 3 34 rest) r e z)
 
-    pub sizes_out : (s ≡ 0 → ⊥) → said (Refused s) ≡ sizes_due rest
+    pub sizes_out : (s ≡ 0 → ⊥) → refusing s ≡ sizes_due rest
     unfolding sizes_due sizes_record_checks all_checks_lem left
     sizes_out y = said_refused (first_met all_checks_lem) s _ (stops_in_front (size_checks (sizes_read rest)) left (omega arith) s here y ∙ sym behind_header3) y
 
@@ -185,13 +149,12 @@ module _ (rest : List ℕ) (r : ℕ) (e : r ≡ first_met (header_checks 3 34 re
       unfolding left first_met
       left_none_lem h = rw (le-ltb 36 (length rest) h)
 
-      pub bytes_left : 36 < length rest → said (Refused 7) ≡ sizes_due rest
+      pub bytes_left : 36 < length rest → refusing 7 ≡ sizes_due rest
       unfolding sizes_due sizes_record_checks all_checks_lem left
       bytes_left h = said_refused (first_met all_checks_lem) 7 _ (left_met h ∙ sym behind_sizes) (λ p. omega arith)
 
-      pub sizes_in : length rest ≤ 36 →
-          said (Sizes (get_or sizes 0 0) (get_or sizes 1 0) (get_or sizes 2 0) (get_or sizes 3 0) (get_or sizes 4 0) (get_or sizes 5 0) (get_or sizes 6 0) (get_or sizes 7 0)) ≡ sizes_due rest
-      unfolding sizes_due sizes_record_checks all_checks_lem left said sizes_read
+      pub sizes_in : length rest ≤ 36 → said (Sizes sizes) ≡ sizes_due rest
+      unfolding sizes_due sizes_record_checks all_checks_lem left said
       sizes_in h = rw q (said_next (first_met all_checks_lem) (saying 3 (sizes_read rest)) (behind_sizes ∙ left_none_lem h))
 
 -- ---- which is due

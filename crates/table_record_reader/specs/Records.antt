@@ -1,9 +1,11 @@
 -- What the record reader answers, in the paper's numbers.
-use Rattle.std.specs.Prelude.{cond, List, [], ◌∷◌, ℕ, zero, suc, ◌-◌, eqb, leb}
-use Rattle.std.proofs.Math.Option.{Option}
+use Rattle.std.specs.Prelude.{cond, List, [], ◌∷◌, ℕ, zero, suc, ◌-◌, eqb, leb, Option, None, Some, Result, Ok, Err}
+use Rattle.std.proofs.Math.Option.{Option as Previous}
 use Rattle.model.specs.Basics.{first_met}
 use Rattle.model.specs.Link.{VirtualLink}
 use Rattle.model.specs.TableFile.{number_at, link_read, sizes_read, count_record_checks, link_record_checks, sizes_record_checks}
+use Rattle.refusal.specs.declared.Refusal.{Refusal}
+use Rattle.refusal.specs.Numbers.{number_of}
 use Rattle.table_record_reader.specs.declared.Record.{Record}
 use Rattle.table_record_reader.specs.declared.Record.TheVariants.{Counts, Link, Sizes, Refused}
 use Rattle.table.specs.Checks.{previous_of}
@@ -18,6 +20,9 @@ pub record Said : Type 0 where
 abbrev pub saying : ℕ → List ℕ → Said
 saying kind values = record { refused = 0; kind = kind; values = values }
 
+abbrev pub refusing : ℕ → Said
+refusing n = record { refused = n; kind = 0; values = [] }
+
 abbrev pub link_values : VirtualLink → List ℕ
 link_values v = v.number ∷ v.line ∷ v.priority ∷ v.code ∷ v.least ∷ v.greatest ∷ v.jitter ∷ []
 
@@ -25,19 +30,29 @@ link_values v = v.number ∷ v.line ∷ v.priority ∷ v.code ∷ v.least ∷ v.
 unfoldable pub said : Record → Said
 said (Counts lines n) = saying 1 (lines ∷ n ∷ [])
 said (Link number v) = saying 2 (link_values (view_link number v))
-said (Sizes a b c d e f g h) = saying 3 (a ∷ b ∷ c ∷ d ∷ e ∷ f ∷ g ∷ h ∷ [])
-said (Refused n) = record { refused = n; kind = 0; values = [] }
+said (Sizes sizes) = saying 3 sizes
+said (Refused refusal) = refusing (number_of refusal)
+
+-- a record, or the refusal in its place
+abbrev pub said_of : Result Record Refusal → Said
+said_of (Ok next) = said next
+said_of (Err refusal) = refusing (number_of refusal)
+
+-- the number of the refusal, 0 if none
+abbrev pub refusal_said : Option Refusal → ℕ
+refusal_said None = 0
+refusal_said (Some refusal) = number_of refusal
 
 -- "the next record, or else the reader stops there with the refusal"
 unfoldable pub said_or : ℕ → Said → Said
 said_or zero next = next
-said_or (suc n) next = record { refused = suc n; kind = 0; values = [] }
+said_or (suc n) next = refusing (suc n)
 
 unfoldable pub counts_due : List ℕ → Said
 counts_due rest =
     said_or (first_met (count_record_checks rest)) (saying 1 (number_at 4 2 rest ∷ number_at 6 2 rest ∷ []))
 
-unfoldable pub link_due : ℕ → Option ℕ → List ℕ → Said
+unfoldable pub link_due : ℕ → Previous ℕ → List ℕ → Said
 link_due lines previous rest =
     said_or (first_met (link_record_checks lines previous rest)) (saying 2 (link_values (link_read rest)))
 

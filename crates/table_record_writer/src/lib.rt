@@ -8,47 +8,45 @@ ghost use Rattle.little_endian.specs.Output.{laid};
 ghost use Rattle.table.specs.View.{view_link, view_links};
 ghost use Rattle.table_record_writer.specs.Records.{link_record};
 
-use little_endian::{write1, write2, write4};
+use little_endian::LittleEndian;
 use table::{Table, VirtualLink};
 
 fn header(out: &mut [u8], at: usize, len: u16, kind: u16)
     requires { at + 4 ≤ length out.old }
     ensures { out.new ≡ laid at (to_bytes 2 len ++ to_bytes 2 kind) out.old }
 {
-    write2(out, at, len);
-    write2(out, at + 2, kind);
+    len.write(out, at);
+    kind.write(out, at + 2);
 }
 
 fn counts_body(out: &mut [u8], lines: u16, count: u16)
     requires { 4 ≤ length out.old }
     ensures { out.new ≡ laid 0 (counts_body lines count) out.old }
 {
-    write2(out, 0, lines);
-    write2(out, 2, count);
+    lines.write(out, 0);
+    count.write(out, 2);
 }
 
 fn link_body(out: &mut [u8], number: u16, link: VirtualLink)
     requires { 14 ≤ length out.old }
     ensures { out.new ≡ laid 0 (link_body (view_link number link)) out.old }
 {
-    write2(out, 0, number);
-    write1(out, 2, link.line);
-    write1(out, 3, link.priority);
-    write1(out, 4, link.code);
-    write1(out, 5, 0);
-    write2(out, 6, link.least);
-    write2(out, 8, link.greatest);
-    write4(out, 10, link.jitter);
+    number.write(out, 0);
+    link.line.write(out, 2);
+    link.priority.write(out, 3);
+    link.code.write(out, 4);
+    0u8.write(out, 5);
+    link.least.write(out, 6);
+    link.greatest.write(out, 8);
+    link.jitter.write(out, 10);
 }
 
 fn sizes_body(out: &mut [u8], sizes: [u32; 8])
     requires { 32 ≤ length out.old }
     ensures { out.new ≡ laid 0 (sizes_body sizes) out.old }
 {
-    let mut p: usize = 0;
-    while p < 8 {
-        write4(out, 4 * p, sizes[p]);
-        p += 1;
+    for p in 0..8 {
+        sizes[p].write(out, 4 * p);
     }
 }
 
@@ -80,12 +78,10 @@ pub fn link_records(out: &mut [u8], t: Table)
     requires { (t.count ≤ 256) × (8 + 18 * t.count ≤ length out.old) }
     ensures { out.new ≡ laid 8 (flat_map link_record (view_links t)) out.old }
 {
-    let n = t.count as usize;
-    let mut i: usize = 0;
-    while i < n {
+    let n = usize::from(t.count);
+    for i in 0..n {
         let number = t.numbers[i];
         let link = t.links[i];
         link_record(out, 8 + 18 * i, number, link);
-        i += 1;
     }
 }

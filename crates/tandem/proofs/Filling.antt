@@ -24,7 +24,7 @@ use Rattle.table.specs.View.{view_link, record_link, blank_fields, view_links, v
 use Rattle.table.proofs.Shape.{count_shown}
 use Rattle.table.proofs.Shown.{record_shown}
 use Rattle.table.proofs.PassingRecord.{counts_pass, entry_is, entry_fits}
-use Rattle.tandem.specs.declared.Next.{Next as NextRecord}
+use Rattle.tandem.specs.Answer.{Next as NextRecord}
 use Rattle.tandem.specs.Rows.{moved_link, Ready, rows_of}
 use Rattle.tandem.proofs.Given.{row_at, next_stops}
 

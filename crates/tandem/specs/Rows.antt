@@ -5,8 +5,7 @@ use Rattle.model.specs.NextTable.{next_links, rows_refusal, next_or}
 use Rattle.table.specs.declared.VirtualLink.{VirtualLink as LinkFields}
 use Rattle.table.specs.declared.Table.{Table as TableRecord}
 use Rattle.table.specs.View.{view_table}
-use Rattle.tandem.specs.declared.Next.{Next as NextRecord}
-use Rattle.tandem.specs.Answer.{record_next}
+use Rattle.tandem.specs.Answer.{Next as NextRecord, record_next}
 
 -- the fields of a link on that line, by its priority's hold
 abbrev pub moved_link : LinkFields → ℕ → ℕ → LinkFields

@@ -1,9 +1,9 @@
 // The rows of the next table.
 ghost use Rattle.std.specs.Prelude.{◌≡◌, ◌+◌, ◌-◌, ◌≤◌, get_or};
+ghost use Rattle.tandem.specs.Answer.{next_of};
 ghost use Rattle.tandem.specs.Rows.{moved_link, Ready, rows_of};
 
-use crate::Next;
-use numbers::{excess, u16_as_u64, u32_as_u64};
+use refusal::Refusal;
 use table::{Table, VirtualLink};
 use units::GREATEST_JITTER;
 
@@ -11,13 +11,13 @@ fn hold_of(holds: [u32; 8], priority: u8) -> u32
     requires { priority ≤ 7 }
     ensures { result ≡ get_or holds priority 0 }
 {
-    holds[priority as usize]
+    holds[usize::from(priority)]
 }
 
 fn next_jitter(jitter: u32, hold: u32, least: u16) -> u64
     ensures { result ≡ jitter + hold - least }
 {
-    excess(u32_as_u64(jitter) + u32_as_u64(hold), u16_as_u64(least))
+    (u64::from(jitter) + u64::from(hold)).saturating_sub(u64::from(least))
 }
 
 fn next_link(v: VirtualLink, hold: u32, line: u8) -> VirtualLink
@@ -35,26 +35,24 @@ fn next_link(v: VirtualLink, hold: u32, line: u8) -> VirtualLink
 }
 
 // The rows of a table that has bounds, by its holds; or 21, or 23, which never comes (RowsCarried).
-pub(crate) fn next_rows(t: Table, holds: [u32; 8], line: u8, lines: u16) -> Next
+pub(crate) fn next_rows(t: Table, holds: [u32; 8], line: u8, lines: u16) -> Result<Table, Refusal>
     requires { Ready t holds }
-    ensures { result ≡ rows_of t line lines }
+    ensures { next_of result ≡ rows_of t line lines }
 {
-    let n = t.count as usize;
-    let blank = table::blank_link();
+    let n = usize::from(t.count);
     let mut numbers = [0u16; 256];
-    let mut links = [blank; 256];
+    let mut links = [table::blank_link(); 256];
+    // A flag and no early end: 21 is due behind the last link, and a loop that always runs is as plain.
     let mut late = false;
-    let mut i: usize = 0;
-    while i < n {
+    for i in 0..n {
         let v = t.links[i];
         let link = next_link(v, hold_of(holds, v.priority), line);
         late = late | (GREATEST_JITTER < link.jitter);
         numbers[i] = t.numbers[i];
         links[i] = link;
-        i += 1;
     }
     if late {
-        return crate::refused(21);
+        return Err(Refusal::JitterTooLarge);
     }
     let table = Table {
         lines,
@@ -63,9 +61,6 @@ pub(crate) fn next_rows(t: Table, holds: [u32; 8], line: u8, lines: u16) -> Next
         links,
         sizes: [0u32; 8],
     };
-    let oversold = table::checks::lines_refusal(table);
-    if oversold != 0 {
-        return crate::refused(oversold);
-    }
-    Next { refused: 0, table }
+    table::checks::check_lines(table)?;
+    Ok(table)
 }

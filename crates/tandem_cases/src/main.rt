@@ -4,40 +4,32 @@
 
 mod ports;
 mod reports;
-mod tables;
 
-use case_records::rows::{number, say};
-use case_records::tables::{STDIN_FILENO, say_counts, say_links, take};
-use little_endian::{read2, read8};
+use case_records::tables::{print_counts, print_links};
+use little_endian::LittleEndian;
+use refusal::number_or_0;
+use std::io::{Read, Result};
 
 // The bytes before those of a table record.
 const HEAD: usize = 19;
 
-fn main() {
-    // Nothing says that the input ends, so the loop counts down, from a number that no run uses up.
-    let mut turns = u64::MAX;
-    while turns > 0 && next_case() {
-        turns -= 1;
-    }
+fn main(rt: HostRuntime) {
+    cases::run(|| next_case(&rt));
 }
 
-// Reads a case and prints its lines; false where the input ends.
-fn next_case() -> bool {
+// Reads a case and prints its lines; an error where the input ends.
+fn next_case(rt: &HostRuntime) -> Result<()> {
     let mut head = [0u8; HEAD];
-    if io::read_full(STDIN_FILENO, &mut head) < HEAD {
-        return false;
-    }
-    let line = read8(&head, 1);
-    let t = take(read2(&head, 17));
-    let next = tandem::next_table(t, line, read8(&head, 9));
-    let rows = next.table;
-    say(b"next");
-    number(next.refused as u64);
-    say_counts(rows);
+    rt.stdin().read_exact(&mut head)?;
+    let line = u64::read(&head, 1);
+    let t = case_records::tables::read(rt, u16::read(&head, 17));
+    let next = tandem::next_table(t, line, u64::read(&head, 9));
+    let rows = next.unwrap_or(table::blank());
+    print!(rt; "next {}", number_or_0(next))?;
+    print_counts(rt, &rows)?;
     if head[0] == 1 {
-        say_links(rows);
-    } else {
-        ports::run(t, rows, line);
+        print_links(rt, &rows)?;
+        return Ok(());
     }
-    true
+    ports::run(rt, t, rows, line)
 }

@@ -1,56 +1,85 @@
 // Two ports in a row.
+use crate::reports;
 use crate::reports::NUMBERS;
-use crate::{reports, tables};
-use case_records::given::least;
-use case_records::rows::{number, say};
-use case_records::tables::STDIN_FILENO;
-use case_records::{rows, sums};
-use little_endian::read2;
+use case_records::rows::print_rows;
+use case_records::{record, sums};
+use little_endian::LittleEndian;
 use port::Port;
 use port_batch::Batched;
-use table::Table;
+use refusal::number_or_0;
+use std::io::{Read, Result};
+use table::{Table, VirtualLink};
 
 // The bytes before those of the second port's record.
 const HEAD: usize = 11;
 
 // The reports to the first port, whose departures go to the second, which has the rows.
-pub(crate) fn run(t: Table, rows: Table, line: u64) {
+pub(crate) fn run(rt: &HostRuntime, t: Table, rows: Table, line: u64) -> Result<()> {
     let mut head = [0u8; HEAD];
-    io::read_full(STDIN_FILENO, &mut head);
-    let record = case_records::tables::take(read2(&head, 0));
-    let second = tables::with_rows(record, rows, head[2]);
+    let _ = rt.stdin().read_exact(&mut head);
+    let record = case_records::tables::read(rt, u16::read(&head, 0));
+    let second = with_rows(record, rows, head[2]);
     let mut list = [0u64; NUMBERS];
-    first_port(t, read2(&head, 3), &mut list, read2(&head, 5));
-    second_port(second, read2(&head, 7), &list, line, read2(&head, 9));
+    first_port(rt, t, u16::read(&head, 3), &mut list, u16::read(&head, 5))?;
+    second_port(
+        rt,
+        second,
+        u16::read(&head, 7),
+        &list,
+        line,
+        u16::read(&head, 9),
+    )
+}
+
+// The rows in the first places of a record, their jitters less by so much, and their line count.
+fn with_rows(mut t: Table, rows: Table, less: u8) -> Table {
+    t.lines = rows.lines;
+    let n = usize::from(rows.count).min(256);
+    t.numbers[..n].copy_from_slice(&rows.numbers[..n]);
+    for (link, &v) in t.links[..n].iter_mut().zip(&rows.links) {
+        *link = lessened(v, u32::from(less));
+    }
+    t
+}
+
+fn lessened(v: VirtualLink, less: u32) -> VirtualLink {
+    VirtualLink {
+        jitter: v.jitter.saturating_sub(less),
+        ..v
+    }
 }
 
 // So many reports of the case, and a departure list of so many numbers.
-fn first_port(t: Table, many: u16, list: &mut [u64], room: u16) {
+fn first_port(rt: &HostRuntime, t: Table, many: u16, list: &mut [u64], room: u16) -> Result<()> {
     let mut numbers = [0u64; NUMBERS];
-    reports::take(many, &mut numbers);
+    reports::read(rt, many, &mut numbers);
     let mut answers = [0u64; NUMBERS];
     let b = answered(t, &numbers, many, &mut answers, list, room);
-    say(b"first");
-    say_batch(b.refused, b.departures);
-    say_sums(&answers, many, list, room);
+    print!(rt; "first ")?;
+    print_batch(rt, b, &answers, many, list, room)
 }
 
-fn second_port(t: Table, many: u16, departures: &[u64], line: u64, room: u16) {
+fn second_port(
+    rt: &HostRuntime,
+    t: Table,
+    many: u16,
+    departures: &[u64],
+    line: u64,
+    room: u16,
+) -> Result<()> {
     let mut numbers = [0u64; NUMBERS];
-    reports::take(many, &mut numbers);
+    reports::read(rt, many, &mut numbers);
     reports::put_departures(many, &mut numbers, departures, line);
     let mut answers = [0u64; NUMBERS];
     let mut list = [0u64; NUMBERS];
     let b = answered(t, &numbers, many, &mut answers, &mut list, room);
-    rows::say_rows(&answers, many as usize);
-    say(b"second");
-    say_batch(b.refused, b.departures);
-    say_sums(&answers, many, &list, room);
-    let port = b.port;
-    say_port(port);
+    print_rows(rt, &answers, usize::from(many))?;
+    print!(rt; "second ")?;
+    print_batch(rt, b, &answers, many, &list, room)?;
+    println!(rt; "port {} {}", b.port.clock, sums::of_port(b.port, false))
 }
 
-// The reports to the fresh port of a table, in one batch.
+// The reports to the fresh port of a table, in one batch; where there is none, to the port whose record is empty.
 fn answered(
     t: Table,
     numbers: &[u64],
@@ -59,27 +88,21 @@ fn answered(
     list: &mut [u64],
     room: u16,
 ) -> Batched {
-    let fresh = Port::fresh(t);
-    let port = fresh.port;
-    let n = least(5 * (many as usize), numbers.len());
-    let k = least(room as usize, list.len());
-    port_batch::batch(port, &numbers[0..n], answers, &mut list[0..k])
+    let port = Port::fresh(t).unwrap_or(record::port_of(&[]));
+    let n = (5 * usize::from(many)).min(numbers.len());
+    let k = usize::from(room).min(list.len());
+    port_batch::batch(port, &numbers[..n], answers, &mut list[..k])
 }
 
-fn say_batch(refused: u32, departures: u64) {
-    number(refused as u64);
-    number(departures);
-}
-
-fn say_sums(answers: &[u64], many: u16, list: &[u64], room: u16) {
-    number(sums::of_list(answers, 3 * (many as usize)));
-    number(sums::of_list(list, room as usize));
-    say(b"\n");
-}
-
-fn say_port(port: Port) {
-    say(b"port");
-    number(port.clock);
-    number(sums::of_port(port, false));
-    say(b"\n");
+fn print_batch(
+    rt: &HostRuntime,
+    b: Batched,
+    answers: &[u64],
+    many: u16,
+    list: &[u64],
+    room: u16,
+) -> Result<()> {
+    print!(rt; "{} {} ", number_or_0(b.outcome), b.outcome.unwrap_or(0))?;
+    let told = sums::of_list(answers, 3 * usize::from(many));
+    println!(rt; "{told} {}", sums::of_list(list, usize::from(room)))
 }

@@ -1,9 +1,8 @@
 // Reports of a case, five numbers each.
-ghost use Rattle.std.specs.Prelude.{◌+◌, ◌≤◌, length};
+ghost use Rattle.std.specs.Prelude.{◌≡◌, length};
 
-use case_records::given::least;
-use case_records::tables::STDIN_FILENO;
-use little_endian::{read1, read2, read8};
+use little_endian::LittleEndian;
+use std::io::Read;
 
 // The numbers of 80 reports.
 pub(crate) const NUMBERS: usize = 400;
@@ -11,89 +10,44 @@ pub(crate) const NUMBERS: usize = 400;
 // The form of a departure of the first port.
 const DEPARTURE: u64 = 2;
 
-// Reads so many reports.
-pub(crate) fn take(many: u16, reports: &mut [u64]) {
-    let n = least(many as usize, reports.len() / 5);
-    for i in 0..n {
-        take_report(reports, 5 * i);
+// Reads so many reports. What the input lacks counts as 0.
+pub(crate) fn read(rt: &HostRuntime, many: u16, reports: &mut [u64]) {
+    for report in reports.chunks_exact_mut(5).take(usize::from(many)) {
+        report.copy_from_slice(&read_report(rt));
     }
 }
 
-fn take_report(reports: &mut [u64], at: usize)
-    requires { at + 5 ≤ length reports.old }
-{
-    let form = take_byte() as u64;
+fn read_report(rt: &HostRuntime) -> [u64; 5] {
+    let mut one = [0u8; 1];
+    let _ = rt.stdin().read_exact(&mut one);
+    let form = u64::from(one[0]);
     if form == DEPARTURE {
-        put(reports, at, form, 0, 0, 0, 0);
-        return;
+        return [form, 0, 0, 0, 0];
     }
     let mut bytes = [0u8; 13];
-    io::read_full(STDIN_FILENO, &mut bytes);
-    put_bytes(reports, at, form, &bytes);
-}
-
-fn take_byte() -> u8 {
-    let mut one = [0u8; 1];
-    io::read_full(STDIN_FILENO, &mut one);
-    one[0]
-}
-
-fn put_bytes(reports: &mut [u64], at: usize, form: u64, bytes: &[u8])
-    requires { at + 5 ≤ length reports.old }
-{
-    let tick = read8(bytes, 0);
-    let line = read1(bytes, 8) as u64;
-    let number = read2(bytes, 9) as u64;
-    put(
-        reports,
-        at,
-        form,
-        tick,
-        line,
-        number,
-        read2(bytes, 11) as u64,
-    );
-}
-
-fn put(reports: &mut [u64], at: usize, form: u64, tick: u64, line: u64, number: u64, bytes: u64)
-    requires { at + 5 ≤ length reports.old }
-{
-    reports[at] = form;
-    reports[at + 1] = tick;
-    reports[at + 2] = line;
-    reports[at + 3] = number;
-    reports[at + 4] = bytes;
+    let _ = rt.stdin().read_exact(&mut bytes);
+    let tick = u64::read(&bytes, 0);
+    let line = u64::from(u8::read(&bytes, 8));
+    let number = u64::from(u16::read(&bytes, 9));
+    let length = u64::from(u16::read(&bytes, 11));
+    [form, tick, line, number, length]
 }
 
 // The departures in the list become the frames that stand for them among so many reports, in order, on the chosen line.
+// What the list lacks counts as 0.
 pub(crate) fn put_departures(many: u16, reports: &mut [u64], list: &[u64], line: u64) {
-    let n = least(many as usize, reports.len() / 5);
-    let mut left: usize = 0;
-    for i in 0..n {
-        left = put_departure(reports, 5 * i, list, left, line);
+    let mut rest = list;
+    for report in reports.chunks_exact_mut(5).take(usize::from(many)) {
+        if report[0] == DEPARTURE {
+            let (departure, behind) = rest.split_at(rest.len().min(3));
+            let number = entry(departure, 0);
+            let length = entry(departure, 1);
+            report.copy_from_slice(&[1, entry(departure, 2), line, number, length]);
+            rest = behind;
+        }
     }
 }
 
-// The place in the list behind what is put.
-fn put_departure(reports: &mut [u64], at: usize, list: &[u64], from: usize, line: u64) -> usize
-    requires { at + 5 ≤ length reports.old }
-{
-    if reports[at] != DEPARTURE {
-        return from;
-    }
-    if from > NUMBERS {
-        return from;
-    }
-    let number = entry(list, from);
-    let bytes = entry(list, from + 1);
-    put(reports, at, 1, entry(list, from + 2), line, number, bytes);
-    from + 3
-}
-
-// 0 behind the end.
 fn entry(list: &[u64], i: usize) -> u64 {
-    if i < list.len() {
-        return list[i];
-    }
-    0
+    list.get(i).copied().unwrap_or(0)
 }

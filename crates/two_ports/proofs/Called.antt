@@ -11,8 +11,7 @@ use Rattle.model.proofs.TableFacts.{sizes_unmet}
 use Rattle.model.proofs.Holds.{has_bounds}
 use Rattle.model.proofs.Passing.{is_passing}
 use Rattle.table.specs.View.{view_table, record_table}
-use Rattle.tandem.specs.declared.Next.{Next as NextRecord}
-use Rattle.tandem.specs.Answer.{record_next}
+use Rattle.tandem.specs.Answer.{Next, record_next}
 use Rattle.tandem.proofs.Given.{next_refused, next_is, sized_shown}
 use Rattle.port_batch.proofs.Chained.{Ran, chain_ran}
 use Rattle.two_ports.specs.Calls.{with_sizes, TwoPortsOfCalls, TwoPortsAmongOthersOfCalls}
@@ -33,14 +32,14 @@ unfolding next_links
 rows_few t line b = rw (length-map t.links (next_link t line)) (is_passing t (has_bounds t b).table).counts.links_most
 
 pub two_ports_of_calls : TwoPortsOfCalls
-two_ports_of_calls t line lines n e z sizes p q log onward c d handed =
+two_ports_of_calls t line lines n e sizes p q log onward c d handed =
     let v = view_table t in
-    let x : next_refusal v line lines ≡ 0 = sym (next_refused v line lines) ∙ sym (ap (λ (r : NextRecord). r.refused) e) ∙ z in
+    let x : next_refusal v line lines ≡ 0 = sym (next_refused v line lines) ∙ sym (ap (λ (r : Next). r.refused) e) in
     let b : bounds_refusal v ≡ 0 = next_bounds v line lines x in
-    let table : n.table ≡ record_table (next_table v line lines (replicate 8 0)) = ap (λ (r : NextRecord). r.table) (e ∙ ap record_next (next_is v line lines x)) in
-    let shown : view_table (with_sizes n.table sizes) ≡ next_table v line lines sizes = sized_shown v line lines sizes (rows_few v line b) n.table table in
+    let table : n ≡ record_table (next_table v line lines (replicate 8 0)) = ap (λ (r : Next). r.table) (e ∙ ap record_next (next_is v line lines x)) in
+    let shown : view_table (with_sizes n sizes) ≡ next_table v line lines sizes = sized_shown v line lines sizes (rows_few v line b) n table in
     let k : Ran t p log = chain_ran t p log c in
-    let m : Ran (with_sizes n.table sizes) q onward = chain_ran (with_sizes n.table sizes) q onward d in
+    let m : Ran (with_sizes n sizes) q onward = chain_ran (with_sizes n sizes) q onward d in
     let passes : table_refusal (next_table v line lines sizes) ≡ 0 = rw shown at m.passes in
     let l = ap (λ (h : History). h.log) k.is in
     let o = ap (λ (h : History). h.log) (rw shown at m.is) in

@@ -35,7 +35,7 @@ use Rattle.model.proofs.Invariant.{Invariant, run_kept, no_marks}
 use Rattle.model.proofs.Fitness.{never_unfit, fit_is}
 use Rattle.model.proofs.Paying.{ticks_none, ticks_same, ticks_other, run_spared}
 use Rattle.model.proofs.Demand.{demand_three}
-use Rattle.table_lookup.proofs.Halving.{place_at}
+use Rattle.table_lookup.proofs.Finding.{place_at}
 use Rattle.two_ports.specs.Handed.{IsOn, handed_by, handed_on, latest, InOrder}
 use Rattle.two_ports.specs.Promises.{Fares, RowsAmong}
 use Rattle.two_ports.proofs.Thinned.{Thinned, none_left, thinned_more, thinned_last, thinned_keeps}

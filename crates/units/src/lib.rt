@@ -5,8 +5,6 @@ ghost use Rattle.std.specs.Prelude.{◌≡◌, [], ◌∷◌, ◌≤◌, leb};
 ghost use Rattle.model.specs.Basics.{all_hold};
 ghost use Rattle.model.specs.Units.{least_length, greatest_length, occupied};
 
-use numbers::{excess, u16_as_u64};
-
 // A port clock runs from 0 to this tick, 2^48 − 1.
 pub const LAST_TICK: u64 = 281474976710655;
 
@@ -38,18 +36,17 @@ pub const LIST_ROOM: usize = 3 * MOST_HELD;
 // A count of frames rises to this, 2^52, and no further.
 pub const FULL_COUNT: u64 = 4503599627370496;
 
+#[tactic(auto, unfolding(model::specs::Basics::all_hold))]
 pub fn is_length(bytes: u64) -> bool
     ensures { result ≡ all_hold (leb least_length bytes ∷ leb bytes greatest_length ∷ []) }
 {
-    if bytes < u16_as_u64(LEAST_LENGTH) {
-        return false;
-    }
-    bytes <= u16_as_u64(GREATEST_LENGTH)
+    u64::from(LEAST_LENGTH) <= bytes && bytes <= u64::from(GREATEST_LENGTH)
 }
 
 // What a frame of so many wire bytes takes of its buffer.
+#[tactic(auto, unfolding(model::specs::Units::occupied))]
 pub fn occupancy(wire: u64) -> u64
     ensures { (result ≡ occupied wire) × (result ≤ wire) }
 {
-    excess(wire, UNKEPT)
+    wire.saturating_sub(UNKEPT)
 }

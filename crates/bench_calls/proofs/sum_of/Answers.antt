@@ -1,34 +1,11 @@
-use mathlib.Core.Path.{◌≡◌, ◌∙◌}
-use native.Mathlib.Omega.{arith}
-use lib.ListN.{length}
-use Rattle.bench_calls.proofs.Adding.{sum_none, sum_more, sum-all}
+use Rattle.std.proofs.Common.{◌≡◌, ◌*◌, ◌≤◌, sum, length, rules, arith}
+use Rattle.std.proofs.lemmas.List.Sums.{sum_by-le}
+use Rattle.std.proofs.lemmas.List.Elements.{All-from_get_or}
 use Rattle.bench_calls.proofs.sum_of.Goals as goal
-
-pub loop-i-init : goal.loop-i-init
-loop-i-init c = (omega arith, omega arith, sum_none c.args.a)
-
-pub offset_bounds-a-i : goal.offset_bounds-a-i
-offset_bounds-a-i c = omega arith
-
-pub bounds-a-i : goal.bounds-a-i
-bounds-a-i c = omega arith
-
-pub overflow_add-total : goal.overflow_add-total
-overflow_add-total c = omega arith
-
-pub overflow_add-i : goal.overflow_add-i
-overflow_add-i c = omega arith
-
-pub loop-i-smaller : goal.loop-i-smaller
-loop-i-smaller c = omega arith
-
-pub loop-i-preserved : goal.loop-i-preserved
-loop-i-preserved c =
-    let l : length c.args.a ≡ 8 = c.well_formed.0.1.0.1 in
-    let more = sum_more c.args.a c.loop-i.i (omega arith) in
-    (omega arith, omega arith, omega arith)
 
 pub returns : goal.returns
 returns c =
-    let l : length c.args.a ≡ 8 = c.well_formed.0.1.0.1 in
-    (c.loop-i.invariant.2 ∙ sum-all c.args.a c.loop-i.i (omega arith), omega arith)
+    let a = c.args.a.now in
+    let is : c.sum.result ≡ sum a = search rules in
+    let few : sum a ≤ length a * 4_294_967_295 = sum_by-le (λ n. n) 4_294_967_295 a (All-from_get_or (λ n. n ≤ 4_294_967_295) a 0 (λ i l. omega (arith, c.type_inv.a i))) in
+    (is, omega arith)

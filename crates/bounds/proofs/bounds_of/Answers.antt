@@ -1,49 +1,25 @@
-use mathlib.Core.Path.{◌≡◌, sym, ◌∙◌}
 use native.Mathlib.Omega.{arith}
+use mathlib.Core.Path.{◌≡◌}
+use Rattle.refusal.proofs.Numbers.{passed_on}
 use Rattle.table.specs.View.{view_table}
-use Rattle.bounds.proofs.Answering.{known_none, known_more, table_refused, hold_refused, all_known}
+use Rattle.bounds.proofs.Answering.{known_more, table_refused, hold_refused, all_known}
 use Rattle.bounds.proofs.bounds_of.Goals as goal
 
-pub returns-then-number-ne0 : goal.returns-then-number-ne0
-returns-then-number-ne0 c = table_refused (view_table c.args.t) c.check-number.result c.check-number.ensures c.if-number-ne0.true c.refused.result c.refused.ensures
+pub returns-in_err-passing : goal.returns-in_err-passing
+returns-in_err-passing c = rw (passed_on _ _ c.from_residual.ensures.1) (table_refused (view_table c.args.t) _ c.in_err-passing.ensures.refusal)
 
-pub loop-p-init : goal.loop-p-init
-loop-p-init c = (omega arith, known_none (view_table c.args.t))
-
-pub overflow_cast-p : goal.overflow_cast-p
-overflow_cast-p c = omega arith
-
-pub limits_of-l-requires : goal.limits_of-l-requires
-limits_of-l-requires c = (sym c.check-number.ensures ∙ c.if-number-ne0.false, omega arith)
-
-pub returns-then-l-eq0 : goal.returns-then-l-eq0
-returns-then-l-eq0 c = hold_refused (view_table c.args.t) (sym c.check-number.ensures ∙ c.if-number-ne0.false) c.loop-p.p c.limits_of-l.result (omega arith) c.limits_of-l.ensures c.if-l-eq0.true c.refused-then-l-eq0.result c.refused-then-l-eq0.ensures
-
-pub offset_bounds-bounds-p : goal.offset_bounds-bounds-p
-offset_bounds-bounds-p c = omega arith
-
-pub bounds-bounds-p : goal.bounds-bounds-p
-bounds-bounds-p c = omega arith
-
-pub offset_bounds-holds-p : goal.offset_bounds-holds-p
-offset_bounds-holds-p c = omega arith
-
-pub offset_bounds-windows-p : goal.offset_bounds-windows-p
-offset_bounds-windows-p c = omega arith
-
-pub bounds-windows-p : goal.bounds-windows-p
-bounds-windows-p c = omega arith
-
-pub overflow_add-p : goal.overflow_add-p
-overflow_add-p c = omega arith
-
-pub loop-p-smaller : goal.loop-p-smaller
-loop-p-smaller c = omega arith
+pub returns-in_default : goal.returns-in_default
+returns-in_default c =
+    let passing = c.in_ok-passing.passing in
+    rw (← c.in_ok-passing.ensures.same) (hold_refused (view_table passing.table) passing.passes c.loop-p.p (omega arith) c.in_default.ensures)
 
 pub loop-p-preserved : goal.loop-p-preserved
-loop-p-preserved c = (omega arith, known_more (view_table c.args.t) c.loop-p.bounds c.loop-p.holds c.loop-p.windows c.loop-p.p c.loop-p.invariant.1 (omega arith) c.limits_of-l.result c.limits_of-l.ensures c.if-l-eq0.false)
+loop-p-preserved c =
+    rw c.from-k.ensures
+    (known_more (view_table c.in_ok-passing.passing.table) c.loop-p.bounds c.loop-p.holds c.loop-p.windows c.loop-p.p c.loop-p.invariant (omega arith) c.in-Some.l c.in-Some.ensures)
 
 pub returns : goal.returns
 returns c =
+    let passing = c.in_ok-passing.passing in
     let e : c.loop-p.p ≡ 8 = omega arith in
-    all_known (view_table c.args.t) c.loop-p.bounds c.loop-p.holds c.loop-p.windows (rw e at c.loop-p.invariant.1) (sym c.check-number.ensures ∙ c.if-number-ne0.false)
+    rw (← c.in_ok-passing.ensures.same) (all_known (view_table passing.table) c.loop-p.bounds c.loop-p.holds c.loop-p.windows (rw e at c.loop-p.invariant) passing.passes)

@@ -8,13 +8,13 @@ use Rattle.bounds_arrivals.proofs.arrivals.Goals as goal
 
 pub total-requires : goal.total-requires
 total-requires c =
-    let few = (counts_pass c.args.t c.requires.0).lines_most in
-    (omega arith, c.requires.1, tops_few c.args.t c.requires.0 (between c.args.low c.args.high) _ c.args.w c.requires.1 c.loads_of-l.result c.loads_of-l.ensures)
+    let few = (counts_pass c.args.t.table c.args.t.passes).lines_most in
+    (omega arith, c.requires, tops_few c.args.t.table c.args.t.passes (between c.args.of.low c.args.of.high) _ c.args.w c.requires c.loads_of-l.result c.loads_of-l.ensures)
 
 pub returns : goal.returns
 returns c =
-    let few = (counts_pass c.args.t c.requires.0).lines_most in
-    let e = rw c.u16_as_usize.ensures.0 at c.total.ensures.0 in (
-      e ∙ flow_is (less 0) (between c.args.low c.args.high) (view_links c.args.t) c.args.w c.loads_of-l.result c.args.t.lines few c.loads_of-l.ensures,
+    let few = (counts_pass c.args.t.table c.args.t.passes).lines_most in
+    let e = rw c.from.ensures at c.total.ensures.0 in (
+      e ∙ flow_is (less 0) (between c.args.of.low c.args.of.high) (view_links c.args.t.table) c.args.w c.loads_of-l.result c.args.t.table.lines few c.loads_of-l.ensures,
       omega arith,
     )

@@ -1,44 +1,32 @@
 use mathlib.Core.Path.{sym, ◌∙◌}
 use native.Mathlib.Omega.{arith}
 use Rattle.table.specs.View.{view_links}
-use Rattle.table.proofs.PassingRecord.{counts_pass, entry_fits}
+use Rattle.table.proofs.PassingRecord.{entry_fits}
 use Rattle.bounds_arrivals.specs.Loads.{between}
 use Rattle.bounds_arrivals.proofs.Loading.{longest_none, longest_skip, longest_step, longest_all}
 use Rattle.bounds_arrivals.proofs.longest.Goals as goal
-use Rattle.bounds_arrivals.proofs.longest.Goals.{then-member, else-member}
+use Rattle.bounds_arrivals.proofs.longest.Goals.{then-has, else-has}
 
-pub loop-i-init : goal.loop-i-init
-loop-i-init c = (omega arith, c.u16_as_usize-count.ensures.0, longest_none (between c.args.low c.args.high) (view_links c.args.t), omega arith)
+pub loop-l-init : goal.loop-l-init
+loop-l-init c = (longest_none (between c.args.of.low c.args.of.high) (view_links c.args.t.table), omega arith)
 
-pub offset_bounds-t-i : goal.offset_bounds-t-i
-offset_bounds-t-i c = omega arith
-
-pub bounds-t-i : goal.bounds-t-i
-bounds-t-i c = omega (arith, (counts_pass c.args.t c.requires).links_most)
-
-pub overflow_add-i : goal.overflow_add-i
-overflow_add-i c = omega arith
-
-pub loop-i-smaller : goal.loop-i-smaller
-loop-i-smaller c = omega arith
-
-pub loop-i-preserved : goal.loop-i-preserved
-loop-i-preserved c =
-    let e = c.member.ensures in
-    elim c.if-member.branch [
-      | then-member w ↦ (
-        omega arith,
-        c.loop-i.invariant.1,
-        rw w.top-is (longest_step c.args.t c.requires c.args.low c.args.high c.loop-i.i (omega arith) c.loop-i.top c.loop-i.invariant.2 (sym w.if-member.true ∙ e) w.u16_as_u64.result w.larger-top.result w.u16_as_u64.ensures.0 w.larger-top.ensures),
-        rw w.top-is (omega (arith, (entry_fits c.args.t c.requires c.loop-i.i (omega arith)).greatest_most, w.u16_as_u64.ensures.0, w.larger-top.ensures)),
-      )
-      | else-member w ↦ (
-        omega arith,
-        c.loop-i.invariant.1,
-        rw w.top-is (longest_skip c.args.t c.requires c.args.low c.args.high c.loop-i.i (omega arith) c.loop-i.top c.loop-i.invariant.2 (sym w.if-member.false ∙ e)),
+pub loop-l-preserved : goal.loop-l-preserved
+loop-l-preserved c =
+    let t = c.args.t in
+    let i = c.loop-l.l-index in
+    let e = c.links-l-items.ensures.same i (omega arith) in
+    let m = rw e at c.has.ensures in
+    elim c.if-has.branch [
+      | then-has w ↦
+          let x = rw e at w.from.ensures in (
+            rw w.top-is (longest_step t.table t.passes c.args.of.low c.args.of.high i (omega arith) c.loop-l.top c.loop-l.invariant.0 (sym w.if-has.true ∙ m) w.from.result w.max-top.result x w.max-top.ensures),
+            rw w.top-is (omega (arith, (entry_fits t.table t.passes i (omega arith)).greatest_most, x, w.max-top.ensures)),
+          )
+      | else-has w ↦ (
+        rw w.top-is (longest_skip t.table t.passes c.args.of.low c.args.of.high i (omega arith) c.loop-l.top c.loop-l.invariant.0 (sym w.if-has.false ∙ m)),
         rw w.top-is (omega arith),
       )
     ]
 
 pub returns : goal.returns
-returns c = (longest_all c.args.t (between c.args.low c.args.high) c.loop-i.i c.loop-i.top (omega arith) c.loop-i.invariant.2, omega arith)
+returns c = (longest_all c.args.t.table (between c.args.of.low c.args.of.high) c.loop-l.l-index c.loop-l.top (omega arith) c.loop-l.invariant.0, omega arith)

@@ -4,7 +4,7 @@ use Rattle.bounds_arrivals.proofs.Loading.{flow_none, flow_more}
 use Rattle.bounds_arrivals.proofs.total.Goals as goal
 
 pub loop-k-init : goal.loop-k-init
-loop-k-init c = (omega arith, flow_none c.args.l c.args.w, omega arith)
+loop-k-init c = (flow_none c.args.l c.args.w, omega arith)
 
 pub offset_bounds-l-k : goal.offset_bounds-l-k
 offset_bounds-l-k c = omega arith
@@ -24,19 +24,13 @@ overflow_add-w c = omega (arith, c.requires.2 c.loop-k.k (omega arith))
 pub overflow_add-sum : goal.overflow_add-sum
 overflow_add-sum c = omega (arith, c.requires.2 c.loop-k.k (omega arith))
 
-pub overflow_add-k : goal.overflow_add-k
-overflow_add-k c = omega arith
-
-pub loop-k-smaller : goal.loop-k-smaller
-loop-k-smaller c = omega arith
-
 pub loop-k-preserved : goal.loop-k-preserved
 loop-k-preserved c =
     let k = c.loop-k.k in
     let m = flow_more c.args.l k c.args.w in
-    (omega arith, omega arith, omega (arith, c.requires.2 k (omega arith)))
+    (omega arith, omega (arith, c.requires.2 k (omega arith)))
 
 pub returns : goal.returns
 returns c =
     let e : c.loop-k.k ≡ c.args.lines = omega arith in
-    (rw e at c.loop-k.invariant.1, omega arith)
+    (rw e at c.loop-k.invariant.0, omega arith)

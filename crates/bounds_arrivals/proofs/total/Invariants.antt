@@ -1,10 +1,7 @@
 use mathlib.Core.Path.{◌≡◌}
-use Prim.Native.Nat.{◌-◌, ◌*◌, ◌≤◌}
+use Prim.Native.Nat.{◌*◌, ◌≤◌}
 use Rattle.bounds_arrivals.specs.Loads.{flow}
 use Rattle.bounds_arrivals.proofs.total.Given as goal
 
 abbrev pub invariant-loop-k : goal.invariant-loop-k
-invariant-loop-k l = (l.k ≤ l.lines) × (l.sum ≡ flow l.l l.k l.w) × (l.sum ≤ 67_074 * l.k)
-
-abbrev pub decreases-loop-k : goal.decreases-loop-k
-decreases-loop-k l = l.lines - l.k
+invariant-loop-k l = (l.sum ≡ flow l.l l.k l.w) × (l.sum ≤ 67_074 * l.k)

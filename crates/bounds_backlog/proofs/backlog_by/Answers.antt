@@ -4,5 +4,5 @@ use Rattle.bounds_backlog.proofs.backlog_by.Goals as goal
 pub returns : goal.returns
 returns c =
     let a = c.args in
-    backlog_is a.s a.w a.sent c.smaller.result c.total-a.result c.total-u.result c.excess.result c.excess-2.result
-    c.total-a.ensures.0 c.total-u.ensures.0 c.excess.ensures c.excess-2.ensures c.smaller.ensures
+    backlog_is a.s a.w a.sent c.min.result c.total-a.result c.total-u.result c.saturating_sub.result c.saturating_sub-left.result
+    c.total-a.ensures.0 c.total-u.ensures.0 c.saturating_sub.ensures c.saturating_sub-left.ensures c.min.ensures

@@ -12,14 +12,14 @@ overflow_mul-result c = omega (arith, product_fits c.frames-n.result c.bag.resul
 pub overflow_sub-result : goal.overflow_sub-result
 overflow_sub-result c =
     let a = c.args in
-    omega (arith, past_window a.l a.w c.frames-n.result c.bag.result c.u32_as_u64.result c.frames-n.ensures.0 c.bag.ensures c.u32_as_u64.ensures.0)
+    omega (arith, past_window a.l a.w c.frames-n.result c.bag.result c.from.result c.frames-n.ensures.0 c.bag.ensures c.from.ensures)
 
 pub overflow_sub-result-2 : goal.overflow_sub-result-2
 overflow_sub-result-2 c =
     let a = c.args in
-    omega (arith, past_window a.l a.w c.frames-n.result c.bag.result c.u32_as_u64.result c.frames-n.ensures.0 c.bag.ensures c.u32_as_u64.ensures.0)
+    omega (arith, past_window a.l a.w c.frames-n.result c.bag.result c.from.result c.frames-n.ensures.0 c.bag.ensures c.from.ensures)
 
 pub returns : goal.returns
 returns c =
     let a = c.args in
-    link_steady a.l a.w c.frames-n.result c.bag.result c.u32_as_u64.result c.frames-n.ensures.0 c.bag.ensures c.u32_as_u64.ensures.0 a.high
+    link_steady a.l a.w c.frames-n.result c.bag.result c.from.result c.frames-n.ensures.0 c.bag.ensures c.from.ensures a.high

@@ -3,6 +3,7 @@ use Rattle.bounds_backlog.proofs.stretch_at.Goals as goal
 
 pub returns : goal.returns
 returns c =
-    stretched c.args.t c.requires.1 c.args.p c.args.blocking c.args.longest c.args.last c.args.w c.requires.0 c.requires.2
-    c.loads_of-own.result c.loads_of-up.result c.loads_of-own.ensures c.loads_of-up.ensures c.steady.result c.smaller-until.result c.steady.ensures.0 c.steady.ensures.1 c.smaller-until.ensures
-    c.u16_as_usize-lines.result c.u16_as_usize-lines.ensures.0
+    let s = c.args.s in
+    stretched c.args.t.table c.args.t.passes s.priority s.blocking s.longest s.last c.args.w c.requires.0 c.requires.1
+    c.loads_of-own.result c.loads_of-up.result (rw c.one.ensures at c.loads_of-own.ensures) (rw c.up_to.ensures at c.loads_of-up.ensures) c.steady.result c.min.result c.steady.ensures.0 c.steady.ensures.1 c.min.ensures
+    c.from.result c.from.ensures

@@ -1,34 +1,15 @@
-use native.Mathlib.Omega.{arith}
-use Rattle.counter_sums.specs.Adding.{count_in}
-use Rattle.counter_sums.proofs.Adding.{none_yet, one_more, all_four}
+use Rattle.std.proofs.Common.{◌∙◌, arith}
+use Rattle.std.proofs.lemmas.Iterator.{YieldsList-from_slice}
+use Rattle.std.proofs.lemmas.Iterator.Consumers.{sum_from_yields_List, fits_from_yields_list}
+use Rattle.counter_sums.proofs.Adding.{of_link, sum_of_four, sum_fits}
 use Rattle.counter_sums.proofs.link_sum.Goals as goal
 
-pub loop-v-init : goal.loop-v-init
-loop-v-init c = (omega arith, none_yet (count_in c.args.counts.now c.args.i), omega arith)
-
-pub overflow_mul-sum : goal.overflow_mul-sum
-overflow_mul-sum c = omega arith
-
-pub overflow_add-sum : goal.overflow_add-sum
-overflow_add-sum c = omega arith
-
-pub offset_bounds-counts-i : goal.offset_bounds-counts-i
-offset_bounds-counts-i c = omega arith
-
-pub bounds-counts-i : goal.bounds-counts-i
-bounds-counts-i c = omega arith
-
-pub overflow_add-sum-in-loop-v : goal.overflow_add-sum-in-loop-v
-overflow_add-sum-in-loop-v c = omega (arith, c.loop-v.invariant.2, c.requires.2 c.loop-v.v (omega arith))
-
-pub overflow_add-v : goal.overflow_add-v
-overflow_add-v c = omega arith
-
-pub loop-v-smaller : goal.loop-v-smaller
-loop-v-smaller c = omega arith
-
-pub loop-v-preserved : goal.loop-v-preserved
-loop-v-preserved c = (omega arith, one_more (count_in c.args.counts.now c.args.i) c.loop-v.v c.loop-v.invariant.1, omega (arith, c.loop-v.invariant.2, c.requires.2 c.loop-v.v (omega arith)))
-
 pub returns : goal.returns
-returns c = all_four (count_in c.args.counts.now c.args.i) c.loop-v.v c.loop-v.invariant.1 c.loop-v.invariant.0 (omega arith)
+returns c =
+    let a = c.args in
+    sum_from_yields_List c.iter.result c.sum.result c.sum.ensures.ran (YieldsList-from_slice (of_link a.counts.now a.i) c.iter.ensures.rest) ∙ sum_of_four a.counts.now a.i (omega arith)
+
+pub sum-requires-clause-fits : goal.sum-requires-clause-fits
+sum-requires-clause-fits c =
+    let a = c.args in
+    fits_from_yields_list c.iter.result _ (YieldsList-from_slice (of_link a.counts.now a.i) c.iter.ensures.rest) (sum_fits a.counts.now a.i (omega arith) c.requires.2)

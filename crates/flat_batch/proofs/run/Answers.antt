@@ -1,10 +1,13 @@
-use mathlib.Core.Path.{refl}
+use mathlib.Core.Path.{refl, ap, ◌∙◌}
+use mathlib.Core.List.{List}
+use Prim.Native.Nat.{ℕ}
+use lib.ListN.{get_or}
 use native.Mathlib.Omega.{arith}
 use Rattle.flat_batch.proofs.Turning.{starts, over_all, room_left, room_after, turns}
 use Rattle.flat_batch.proofs.run.Goals as goal
 
 pub loop-i-init : goal.loop-i-init
-loop-i-init c = starts c.args.reports.now c.args.answers.now c.args.list.now c.requires.1 c.requires.2 (omega arith) (omega arith)
+loop-i-init c = starts c.args.reports.now c.args.answers.now c.args.list.now c.requires.0 c.requires.1 (omega arith) (omega arith)
 
 pub overflow_mul-i : goal.overflow_mul-i
 overflow_mul-i c = omega (arith, c.loop-i.invariant.some_left)
@@ -21,53 +24,24 @@ offset_bounds-list-written c = omega (arith, room_left c.loop-i.invariant, c.loo
 pub slice_bounds-report-count : goal.slice_bounds-report-count
 slice_bounds-report-count c = omega (arith, room_left c.loop-i.invariant, c.loop-i.invariant.list_short, c.loop-i.invariant.list_long)
 
-pub report-a-requires : goal.report-a-requires
-report-a-requires c = (c.requires.0, c.loop-i.invariant.progress.stands)
+pub report-outcome-requires : goal.report-outcome-requires
+report-outcome-requires c = c.loop-i.invariant.progress.stands
 
 pub overflow_mul-i-in-loop-i : goal.overflow_mul-i-in-loop-i
 overflow_mul-i-in-loop-i c = omega (arith, c.loop-i-test.true, c.loop-i.invariant.reports_short, c.loop-i.invariant.enough, c.loop-i.invariant.answers_long)
 
-pub put-requires : goal.put-requires
-put-requires c = omega (arith, c.loop-i-test.true, c.loop-i.invariant.reports_short, c.loop-i.invariant.enough, c.loop-i.invariant.answers_long)
-
 pub overflow_add-written : goal.overflow_add-written
-overflow_add-written c = omega (arith, c.loop-i.invariant.list_short, c.loop-i.invariant.list_long, room_after c.loop-i.invariant (omega (arith, c.loop-i-test.true)) c.report_at-report.ensures c.report-a.ensures refl (omega arith))
-
-pub overflow_add-i : goal.overflow_add-i
-overflow_add-i c = omega (arith, c.loop-i-test.true, c.loop-i.invariant.reports_short)
-
-pub loop-i-smaller : goal.loop-i-smaller
-loop-i-smaller c = omega (arith, c.loop-i-test.true)
+overflow_add-written c =
+    omega (
+      arith,
+      c.loop-i.invariant.list_short,
+      c.loop-i.invariant.list_long,
+      ap (λ (l : List ℕ). get_or l 2 0) c.numbers-answer.ensures,
+      room_after c.loop-i.invariant (omega (arith, c.loop-i-test.true)) c.report_at-report.ensures c.report-outcome.ensures refl (omega arith),
+    )
 
 pub loop-i-preserved : goal.loop-i-preserved
-loop-i-preserved c = turns c.loop-i.invariant (omega (arith, c.loop-i-test.true)) c.report_at-report.ensures c.report-a.ensures c.still-accepted.ensures c.u32_as_u64.ensures.0 c.u32_as_u64-in-loop-i.ensures.0 c.put.ensures refl (omega arith) (omega arith)
-
-pub shape_of-frames : goal.shape_of-frames
-shape_of-frames c = omega (arith, c.requires.1.sized.flat.frames_are, c.loop-i.invariant.progress.stands.sized.flat.frames_are)
-
-pub shape_of-heads : goal.shape_of-heads
-shape_of-heads c = omega (arith, c.requires.1.sized.flat.heads_are, c.loop-i.invariant.progress.stands.sized.flat.heads_are)
-
-pub shape_of-counts : goal.shape_of-counts
-shape_of-counts c = omega (arith, c.requires.1.sized.flat.counts_are, c.loop-i.invariant.progress.stands.sized.flat.counts_are)
-
-pub shape_of-held : goal.shape_of-held
-shape_of-held c = omega (arith, c.requires.1.sized.holds.eight, c.loop-i.invariant.progress.stands.sized.holds.eight)
-
-pub shape_of-marks : goal.shape_of-marks
-shape_of-marks c = omega (arith, c.requires.1.sized.marks, c.loop-i.invariant.progress.stands.sized.marks)
-
-pub shape_of-ticks : goal.shape_of-ticks
-shape_of-ticks c = omega (arith, c.requires.1.sized.ticks, c.loop-i.invariant.progress.stands.sized.ticks)
-
-pub shape_of-credits : goal.shape_of-credits
-shape_of-credits c = omega (arith, c.requires.1.sized.credits, c.loop-i.invariant.progress.stands.sized.credits)
-
-pub shape_of-since : goal.shape_of-since
-shape_of-since c = omega (arith, c.requires.1.sized.since, c.loop-i.invariant.progress.stands.sized.since)
-
-pub shape_of-tallies : goal.shape_of-tallies
-shape_of-tallies c = omega (arith, c.requires.1.sized.tallies, c.loop-i.invariant.progress.stands.sized.tallies)
+loop-i-preserved c = turns c.loop-i.invariant (omega (arith, c.loop-i-test.true)) c.report_at-report.ensures c.report-outcome.ensures c.still-accepted.ensures (ap (λ (l : List ℕ). get_or l 2 0) c.numbers-answer.ensures) (c.copy_from_slice.ensures.after ∙ c.numbers-answer.ensures) refl refl (omega arith) (omega arith)
 
 pub shape_of-answers : goal.shape_of-answers
 shape_of-answers c = omega (arith, c.loop-i.invariant.answers_long)
@@ -76,4 +50,4 @@ pub shape_of-list : goal.shape_of-list
 shape_of-list c = omega (arith, c.loop-i.invariant.list_long)
 
 pub returns : goal.returns
-returns c = over_all c.loop-i.invariant (omega arith)
+returns c = rw c.then_some.ensures (over_all c.loop-i.invariant (omega arith))

@@ -1,16 +1,3 @@
--- src/lib.rt:25:16
--- src/lib.rt:25:16
--- src/lib.rt:25:16
--- src/lib.rt:25:5
--- src/lib.rt:25:5
--- src/lib.rt:26:17
--- src/lib.rt:26:17
--- src/lib.rt:26:17
--- src/lib.rt:26:5
--- src/lib.rt:26:5
--- src/lib.rt:21:1
--- src/lib.rt:21:1
--- src/lib.rt:21:1
 use native.Mathlib.Omega.{arith}
 use Rattle.flat_queues.proofs.Rounds.{popped}
 use Rattle.flat_queues.proofs.pop.Goals as goal

@@ -1,20 +1,10 @@
--- src/lib.rt:44:13
--- src/lib.rt:44:13
--- src/lib.rt:45:25
--- src/lib.rt:45:25
--- src/lib.rt:45:25
--- src/lib.rt:45:17
--- src/lib.rt:45:5
--- src/lib.rt:46:17
--- src/lib.rt:46:5
--- src/lib.rt:46:5
--- src/lib.rt:40:1
--- src/lib.rt:40:1
--- src/lib.rt:40:1
+use native.Mathlib.Omega.{arith}
+use Rattle.flat_queues.proofs.Slots.{is_put3}
 use Rattle.flat_queues.proofs.Rounds.{pushed}
 use Rattle.flat_queues.proofs.push.Goals as goal
 
 pub returns : goal.returns
 returns c =
-    rw (c.put.ensures, c.slot.ensures)
-    (pushed c.args.frames.now c.args.heads.now c.args.counts.now c.args.p c.args.number c.args.bytes c.args.arrival c.requires)
+    let a = c.args in
+    rw (is_put3 a.frames.now c.slot-at.result a.number a.bytes a.arrival (omega (arith, c.slot-at.ensures, c.requires.few)) c.copy_from_slice.ensures.after, c.slot-at.ensures)
+    (pushed a.frames.now a.heads.now a.counts.now a.p a.number a.bytes a.arrival c.requires)

@@ -1,12 +1,8 @@
 -- The first i rows of counts are in the list.
-use Prim.Native.Nat.{◌-◌, ◌≤◌}
 use mathlib.Core.Path.{◌≡◌}
 use lib.ListN.{length}
 use Rattle.flat_record.proofs.Rows.{Laid}
 use Rattle.flat_record.proofs.put_counts.Given as goal
 
 abbrev pub invariant-loop-i : goal.invariant-loop-i
-invariant-loop-i l = (length l.tallies ≡ 1281) × (l.i ≤ 256) × Laid l.tallies l.counts l.i
-
-abbrev pub decreases-loop-i : goal.decreases-loop-i
-decreases-loop-i l = 256 - l.i
+invariant-loop-i l = (length l.tallies ≡ 1281) × Laid l.tallies l.counts l.i

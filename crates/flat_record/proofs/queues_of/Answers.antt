@@ -1,26 +1,17 @@
-use mathlib.Core.Path.{refl}
+use mathlib.Core.Path.{◌≡◌, refl}
 use native.Mathlib.Omega.{arith}
 use lib.ListN.{length-set}
 use Rattle.flat_record.proofs.Reading.{ring_fits, one_kept, all_kept}
 use Rattle.flat_record.proofs.queues_of.Goals as goal
 
-pub loop-i-init : goal.loop-i-init
-loop-i-init c = (refl, omega arith, λ p h. absurd (omega arith))
+pub loop-p-init : goal.loop-p-init
+loop-p-init c = (refl, λ p h. absurd (omega arith))
 
-pub bounds-heads-i : goal.bounds-heads-i
-bounds-heads-i c = omega arith
+pub queue_of-requires : goal.queue_of-requires
+queue_of-requires c = ring_fits c.requires c.loop-p.p (omega arith)
 
-pub bounds-counts-i : goal.bounds-counts-i
-bounds-counts-i c = omega arith
-
-pub bounds-marks-i : goal.bounds-marks-i
-bounds-marks-i c = omega arith
-
-pub queue_of-q-requires : goal.queue_of-q-requires
-queue_of-q-requires c = ring_fits c.requires c.loop-i.i (omega arith)
-
-pub loop-i-preserved : goal.loop-i-preserved
-loop-i-preserved c = (rw length-set c.loop-i.invariant.0, omega arith, one_kept c.loop-i.queues c.requires (omega arith) c.queue_of-q.ensures c.loop-i.invariant.2)
+pub loop-p-preserved : goal.loop-p-preserved
+loop-p-preserved c = (rw length-set c.loop-p.invariant.0, one_kept c.loop-p.queues (omega arith) c.queue_of.ensures c.loop-p.invariant.1)
 
 pub returns : goal.returns
-returns c = all_kept c.loop-i.queues c.loop-i.i c.loop-i.invariant.0 c.requires (omega arith) c.loop-i.invariant.2
+returns c = all_kept c.loop-p.queues c.loop-p.invariant.0 (let e : c.loop-p.p ≡ 8 = omega arith in rw e at c.loop-p.invariant.1)

@@ -1,6 +1,4 @@
-use native.Mathlib.Omega.{arith}
 use Rattle.model.specs.Batch.{reports_in, numbers_in}
-use Rattle.table.proofs.Shape.{sized}
 use Rattle.table.proofs.PassingRecord.{counts_pass}
 use Rattle.fresh_batch.proofs.FreshLists.{fresh_stands, from_fresh}
 use Rattle.fresh_batch.proofs.run.Goals as goal
@@ -9,7 +7,7 @@ pub full_accounts-requires : goal.full_accounts-requires
 full_accounts-requires c = (counts_pass c.args.t c.requires.0).links_most
 
 pub run-requires : goal.run-requires
-run-requires c = (record { words_are = omega arith; numbers_are = (sized c.args.t _ c.well_formed.0).numbers }, fresh_stands c.args.t c.put_table.ensures c.requires.0 (rw c.full_accounts.ensures at c.put_accounts.ensures), c.requires.1)
+run-requires c = rw (c.empty.ensures, c.full_accounts.ensures) (fresh_stands c.args.t c.requires.0, c.requires.1)
 
 pub returns : goal.returns
-returns c = from_fresh c.args.t c.put_table.ensures c.requires.0 (rw c.full_accounts.ensures at c.put_accounts.ensures) (reports_in (numbers_in c.args.reports.now)) (numbers_in c.args.departures.now) c.run.ensures.1
+returns c = from_fresh c.args.t c.requires.0 (reports_in (numbers_in c.args.reports.now)) (numbers_in c.args.departures.now) (rw (c.empty.ensures, c.full_accounts.ensures) at c.run.ensures.1)

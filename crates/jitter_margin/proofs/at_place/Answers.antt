@@ -5,10 +5,12 @@ use Rattle.jitter_margin.proofs.at_place.Goals as goal
 
 pub returns-then-many-eq0 : goal.returns-then-many-eq0
 returns-then-many-eq0 c =
-    by_count c.args.t (sized c.args.t _ c.well_formed.0) c.requires.0 c.args.i c.requires.1 c.how_many-many.result c.how_many-many.ensures _
-    (λ z. c.refused.ensures) (λ z. absurd (z c.if-many-eq0.true))
+    let t = c.args.t in
+    by_count t.table (sized t.table _ c.well_formed.0.1.1.0) t.passes c.args.i c.requires c.how_many-many.result c.how_many-many.ensures _
+    (λ z. refl) (λ z. absurd (z c.if-many-eq0.true))
 
 pub returns : goal.returns
 returns c =
-    by_count c.args.t (sized c.args.t _ c.well_formed.0) c.requires.0 c.args.i c.requires.1 c.how_many-many.result c.how_many-many.ensures _
+    let t = c.args.t in
+    by_count t.table (sized t.table _ c.well_formed.0.1.1.0) t.passes c.args.i c.requires c.how_many-many.result c.how_many-many.ensures _
     (λ z. absurd (c.if-many-eq0.false z)) (λ z. refl)

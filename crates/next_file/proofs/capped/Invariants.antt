@@ -1,13 +1,9 @@
 use mathlib.Core.Path.{◌≡◌}
 use mathlib.Core.List.{map}
-use Prim.Native.Nat.{◌-◌, ◌≤◌}
 use lib.ListN.{take}
 use Rattle.model.specs.Basics.{entries}
 use Rattle.next_file.proofs.Capping.{cap}
 use Rattle.next_file.proofs.capped.Given as goal
 
 abbrev pub invariant-loop-p : goal.invariant-loop-p
-invariant-loop-p l = (l.p ≤ 8) × (l.fields ≡ entries 0 8 (map cap (take l.p l.sizes)))
-
-abbrev pub decreases-loop-p : goal.decreases-loop-p
-decreases-loop-p l = 8 - l.p
+invariant-loop-p l = l.fields ≡ entries 0 8 (map cap (take l.p l.sizes))

@@ -1,14 +1,29 @@
+use mathlib.Core.Path.{refl}
+use Rattle.std.specs.Prelude.{Ok, Err}
+use Rattle.refusal.proofs.Numbers.{number_not_0, passed_on}
+use Rattle.table_file.specs.Answers.{reading_of}
+use Rattle.tandem.specs.Answer.{next_of}
 use Rattle.next_file.proofs.Answering.{line_refused, file_refused, rows_refused, writes}
 use Rattle.next_file.proofs.next_file.Goals as goal
 
-pub returns-then-number-ne0 : goal.returns-then-number-ne0
-returns-then-number-ne0 c = line_refused c.args.file.now c.args.line c.args.lines c.args.sizes c.args.out.now c.line_refusal-number.result c.line_refusal-number.ensures c.if-number-ne0.true _ c.refused.ensures
+pub returns-in_err-check_line : goal.returns-in_err-check_line
+returns-in_err-check_line c =
+    let a = c.args in
+    rw (passed_on _ _ c.from_residual.ensures.1) (line_refused a.file.now a.line a.lines a.sizes a.out.now _ c.in_err-check_line.ensures (number_not_0 _) _ refl)
 
-pub returns-then-reading-ne0 : goal.returns-then-reading-ne0
-returns-then-reading-ne0 c = file_refused c.args.file.now c.args.line c.args.lines c.args.sizes c.args.out.now c.line_refusal-number.result c.line_refusal-number.ensures c.if-number-ne0.false c.read-reading.result c.read-reading.ensures c.if-reading-ne0.true _ c.refused-then-reading-ne0.ensures
+pub returns-in_err-t : goal.returns-in_err-t
+returns-in_err-t c =
+    let a = c.args in
+    rw (passed_on _ _ c.from_residual-in_err-t.ensures.1)
+    (file_refused a.file.now a.line a.lines a.sizes a.out.now 0 c.in_ok-check_line.ensures refl (reading_of (Err _)) c.in_err-t.ensures (number_not_0 _) _ refl)
 
-pub returns-then-next-ne0 : goal.returns-then-next-ne0
-returns-then-next-ne0 c = rows_refused c.args.file.now c.args.line c.args.lines c.args.sizes c.args.out.now c.line_refusal-number.result c.line_refusal-number.ensures c.if-number-ne0.false c.read-reading.result c.read-reading.ensures c.if-reading-ne0.false c.next_table-next.result c.next_table-next.ensures c.if-next-ne0.true _ c.refused-then-next-ne0.ensures
+pub returns-in_err-next : goal.returns-in_err-next
+returns-in_err-next c =
+    let a = c.args in
+    rw (passed_on _ _ c.from_residual-in_err-next.ensures.1)
+    (rows_refused a.file.now a.line a.lines a.sizes a.out.now 0 c.in_ok-check_line.ensures refl (reading_of (Ok c.in_ok-t.t)) c.in_ok-t.ensures refl (next_of (Err _)) c.in_err-next.ensures (number_not_0 _) _ refl)
 
 pub returns : goal.returns
-returns c = writes c.args.file.now c.args.line c.args.lines c.args.sizes c.args.out.now c.line_refusal-number.result c.line_refusal-number.ensures c.if-number-ne0.false c.read-reading.result c.read-reading.ensures c.if-reading-ne0.false c.next_table-next.result c.next_table-next.ensures c.if-next-ne0.false _ c.capped-fields.ensures _ _ c.write.ensures
+returns c =
+    let a = c.args in
+    writes a.file.now a.line a.lines a.sizes a.out.now 0 c.in_ok-check_line.ensures refl (reading_of (Ok c.in_ok-t.t)) c.in_ok-t.ensures refl (next_of (Ok c.in_ok-next.next)) c.in_ok-next.ensures refl _ c.capped.ensures _ _ c.write.ensures

@@ -21,4 +21,4 @@ returns-then-clock-start c =
 pub returns : goal.returns
 returns c =
     let a = c.args in
-    λ queues p h e. ends_later a.clock queues p a.start refl (rw (← e) (omega arith)) h (omega arith) (rw (← e) (omega arith)) c.u16_as_u64.result (rw (← e) c.u16_as_u64.ensures.0)
+    λ queues p h e. ends_later a.clock queues p a.start refl (rw (← e) (omega arith)) h (omega arith) (rw (← e) (omega arith)) c.from.result (rw (← e) c.from.ensures)

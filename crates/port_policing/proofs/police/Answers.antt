@@ -4,7 +4,7 @@ use Rattle.port_policing.proofs.Bucket.{is_policed, passes}
 use Rattle.port_policing.proofs.police.Goals as goal
 
 pub returns-then-gone-short : goal.returns-then-gone-short
-returns-then-gone-short c = is_policed c.args.bag c.args.jitter c.args.a c.args.time c.excess-gone.ensures (omega arith) c.if-gone-short.true
+returns-then-gone-short c = is_policed c.args.bag c.args.jitter c.args.a c.args.time c.saturating_sub-gone.ensures c.saturating_sub-short.ensures c.if-gone-short.true
 
 pub returns : goal.returns
-returns c = passes c.args.bag c.args.jitter c.args.a c.args.time c.excess-gone.ensures (omega arith) {rest = c.excess.result} (omega arith) (omega arith) c.if-gone-short.false
+returns c = passes c.args.bag c.args.jitter c.args.a c.args.time c.saturating_sub-gone.ensures c.saturating_sub-short.ensures {rest = c.saturating_sub-rest.result} c.saturating_sub-rest.ensures (omega arith) c.if-gone-short.false

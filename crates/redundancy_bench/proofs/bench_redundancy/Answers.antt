@@ -12,9 +12,6 @@ overflow_add-j c = omega (arith, c.loop-k-test.true, c.loop-k.invariant.at_a, c.
 pub overflow_add-i : goal.overflow_add-i
 overflow_add-i c = omega (arith, c.loop-k-test.true, c.loop-k.invariant.at_a, c.loop-k.invariant.at_b, c.ranges)
 
-pub overflow_add-k : goal.overflow_add-k
-overflow_add-k c = omega (arith, c.loop-k-test.true, c.loop-k.invariant.at_a, c.loop-k.invariant.at_b, c.ranges)
-
 pub loop-k-preserved : goal.loop-k-preserved
 loop-k-preserved c =
     elim c.if-is_b.branch [

@@ -5,4 +5,4 @@ use Rattle.redundancy_bench.proofs.with_part.Goals as goal
 
 pub returns : goal.returns
 unfolding added
-returns c = rw (c.u8_as_u64.ensures.0, c.u8_as_u64-2.ensures.0) refl
+returns c = rw (c.from.ensures, c.from-2.ensures) refl

@@ -8,14 +8,11 @@ returns-then-reports-ne0 c = odd_bytes c.args.reports.now (λ z. c.if-reports-ne
 pub loop-i-init : goal.loop-i-init
 loop-i-init c = looks c.args.reports.now c.if-reports-ne0.false
 
-pub overflow_mul-i : goal.overflow_mul-i
-overflow_mul-i c = omega (arith, c.loop-i.invariant.left)
-
-pub returns-then-read8-gt1 : goal.returns-then-read8-gt1
-returns-then-read8-gt1 c = unknown c.loop-i.invariant (omega (arith, c.loop-i-test.true)) c.read8.ensures c.if-read8-gt1.true
+pub returns-then-read_within-gt1 : goal.returns-then-read_within-gt1
+returns-then-read_within-gt1 c = unknown c.loop-i.invariant (omega (arith, c.loop-i-test.true)) c.read_within.ensures c.if-read_within-gt1.true
 
 pub loop-i-preserved : goal.loop-i-preserved
-loop-i-preserved c = looks_on c.loop-i.invariant (omega (arith, c.loop-i-test.true)) c.read8.ensures (omega (arith, c.if-read8-gt1.false))
+loop-i-preserved c = looks_on c.loop-i.invariant (omega (arith, c.loop-i-test.true)) c.read_within.ensures (omega (arith, c.if-read_within-gt1.false))
 
 pub returns : goal.returns
 returns c = all_known c.loop-i.invariant (omega (arith, c.loop-i-test.false))

@@ -1,19 +1,14 @@
-use native.Mathlib.Omega.{arith}
-use lib.ListN.{length-take}
-use Rattle.sheet_text.proofs.Whole.{refused_text, lines_text}
+use Rattle.std.proofs.Common.{◌∙◌, ap}
+use Rattle.sheet_lines.specs.Lines.{refusal_line}
+use Rattle.sheet_text.proofs.Whole.{sheet_is}
 use Rattle.sheet_text.proofs.text_of.Goals as goal
 
-pub slice_bounds-read-end : goal.slice_bounds-read-end
-slice_bounds-read-end c = simp length-take (omega arith)
+pub returns-in-Ok : goal.returns-in-Ok
+returns-in-Ok c = c.in-Ok.ensures ∙ sheet_is c.args.input.now c.min-end.result c.min-end.ensures
 
-pub returns-then-refused-ne0 : goal.returns-then-refused-ne0
-returns-then-refused-ne0 c =
-    let input = c.args.input.now in
-    refused_text input c.used-end.result c.read-reading.result c.used-end.ensures c.read-reading.ensures c.bounds_of-answer.result c.first_refusal-refused.result c.bounds_of-answer.ensures c.first_refusal-refused.ensures
-    c.refusal_line.result c.if-refused-ne0.true c.refusal_line.ensures
-
-pub returns : goal.returns
-returns c =
-    let input = c.args.input.now in
-    lines_text input c.used-end.result c.read-reading.result c.used-end.ensures c.read-reading.ensures c.bounds_of-answer.result c.first_refusal-refused.result c.bounds_of-answer.ensures c.first_refusal-refused.ensures
-    c.table_lines.result c.if-refused-ne0.false c.table_lines.ensures
+pub returns-in-Err : goal.returns-in-Err
+returns-in-Err c =
+    c.refusal_line.ensures
+    ∙ ap refusal_line c.number.ensures
+    ∙ c.in-Err.ensures
+    ∙ sheet_is c.args.input.now c.min-end.result c.min-end.ensures

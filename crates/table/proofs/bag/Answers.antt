@@ -5,7 +5,7 @@ use Rattle.table.proofs.Bags.{bag_shifted}
 use Rattle.table.proofs.bag.Goals as goal
 
 pub returns : goal.returns
-returns c = bag_shifted c.args.code c.smaller-k.result (omega (arith, c.smaller-k.ensures, c.u8_as_u64.ensures.0))
+returns c = bag_shifted c.args.code c.min-k.result c.min-k.ensures
 
 pub overflow_mul-result : goal.overflow_mul-result
-overflow_mul-result c = record { fits = omega (arith, power_few c.smaller-k.result (omega (arith, c.smaller-k.ensures))) }
+overflow_mul-result c = record { fits = omega (arith, power_few c.min-k.result (omega (arith, c.min-k.ensures))) }

@@ -1,5 +1,5 @@
 use Rattle.table_input.proofs.Reading.{read_taken}
 use Rattle.table_input.proofs.table_of.Goals as goal
 
-pub returns : goal.returns
-returns c = read_taken _ c.read-reading.result c.read-reading.ensures
+pub returns-in-Ok : goal.returns-in-Ok
+returns-in-Ok c = read_taken _ _ c.in-Ok.ensures

@@ -11,34 +11,7 @@ use Rattle.table_record_writer.proofs.Written.{first_laid, more_laid, all_laid, 
 use Rattle.table_record_writer.proofs.link_records.Goals as goal
 
 pub loop-i-init : goal.loop-i-init
-loop-i-init c = (omega arith, refl, refl, first_laid link_record 18 length-link_record 8 (view_links c.args.t) c.args.out.now)
-
-pub offset_bounds-t-i : goal.offset_bounds-t-i
-offset_bounds-t-i c = omega arith
-
-pub bounds-t-i : goal.bounds-t-i
-bounds-t-i c = omega arith
-
-pub offset_bounds-t-i-in-loop-i : goal.offset_bounds-t-i-in-loop-i
-offset_bounds-t-i-in-loop-i c = omega arith
-
-pub bounds-t-i-in-loop-i : goal.bounds-t-i-in-loop-i
-bounds-t-i-in-loop-i c = omega arith
-
-pub overflow_mul-i : goal.overflow_mul-i
-overflow_mul-i c = omega arith
-
-pub overflow_add-i : goal.overflow_add-i
-overflow_add-i c = omega arith
-
-pub link_record-requires : goal.link_record-requires
-link_record-requires c = omega arith
-
-pub overflow_add-i-in-loop-i : goal.overflow_add-i-in-loop-i
-overflow_add-i-in-loop-i c = omega arith
-
-pub loop-i-smaller : goal.loop-i-smaller
-loop-i-smaller c = omega arith
+loop-i-init c = (c.from-n.ensures, refl, first_laid link_record 18 length-link_record 8 (view_links c.args.t) c.args.out.now)
 
 pub loop-i-preserved : goal.loop-i-preserved
 loop-i-preserved c =
@@ -46,12 +19,11 @@ loop-i-preserved c =
     let i = c.loop-i.i in
     let shown = link_shown t i (sized t _ c.well_formed.1.0) (omega arith) (omega arith) in
     let wrote : c.link_record.new.out ≡ laid (8 + 18 * i) (link_record (get_or (view_links t) i blank_link)) c.loop-i.out = rw shown c.link_record.ensures in (
-      omega arith,
-      refl,
-      c.link_record.auto.out ∙ c.loop-i.invariant.2,
+      c.loop-i.invariant.0,
+      c.link_record.auto.out ∙ c.loop-i.invariant.1,
       more_laid link_record 18 length-link_record 8 (view_links t) i (8 + 18 * i) blank_link c.args.out.now c.loop-i.out c.link_record.new.out (omega (arith, count_shown t)) refl
-          (omega arith) c.loop-i.invariant.3 wrote,
+          (omega arith) c.loop-i.invariant.2 wrote,
     )
 
 pub returns : goal.returns
-returns c = all_laid link_record 18 length-link_record 8 (view_links c.args.t) c.loop-i.i c.args.out.now c.loop-i.out (omega (arith, count_shown c.args.t)) c.loop-i.invariant.3
+returns c = all_laid link_record 18 length-link_record 8 (view_links c.args.t) c.loop-i.i c.args.out.now c.loop-i.out (omega (arith, count_shown c.args.t)) c.loop-i.invariant.2

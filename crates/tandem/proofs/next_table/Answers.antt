@@ -1,27 +1,28 @@
-use mathlib.Core.Path.{sym, ◌∙◌}
 use native.Mathlib.Omega.{arith}
+use Rattle.refusal.proofs.Numbers.{passed_on}
 use Rattle.tandem.proofs.Lines.{line_below}
 use Rattle.tandem.proofs.Answering.{line_refused, bounds_refused, is_ready, rows_answer}
 use Rattle.tandem.proofs.next_table.Goals as goal
 
-pub returns-then-number-ne0 : goal.returns-then-number-ne0
-returns-then-number-ne0 c = line_refused c.args.t c.args.line c.args.lines c.line_refusal-number.result c.line_refusal-number.ensures c.if-number-ne0.true _ c.refused.ensures
+pub returns-in_err-check_line : goal.returns-in_err-check_line
+returns-in_err-check_line c = rw (passed_on _ _ c.from_residual.ensures.1) (line_refused c.args.t c.args.line c.args.lines _ c.in_err-check_line.ensures)
 
-pub returns-then-sized-ne0 : goal.returns-then-sized-ne0
-returns-then-sized-ne0 c = bounds_refused c.args.t c.args.line c.args.lines c.line_refusal-number.result c.line_refusal-number.ensures c.if-number-ne0.false c.bounds_of-sized.result c.bounds_of-sized.ensures c.if-sized-ne0.true _ c.refused-then-sized-ne0.ensures
+pub returns-in_err-sized : goal.returns-in_err-sized
+returns-in_err-sized c =
+    rw (passed_on _ _ c.from_residual-in_err-sized.ensures.1) (bounds_refused c.args.t c.args.line c.args.lines c.in_ok-check_line.ensures _ c.in_err-sized.ensures)
 
 pub overflow_cast-line : goal.overflow_cast-line
 overflow_cast-line c =
-    let m = line_below c.args.line c.args.lines (sym c.if-number-ne0.false ∙ c.line_refusal-number.ensures) in
+    let m = line_below c.args.line c.args.lines c.in_ok-check_line.ensures in
     omega (arith, m.0, m.1)
 
 pub overflow_cast-lines : goal.overflow_cast-lines
 overflow_cast-lines c =
-    let m = line_below c.args.line c.args.lines (sym c.if-number-ne0.false ∙ c.line_refusal-number.ensures) in
+    let m = line_below c.args.line c.args.lines c.in_ok-check_line.ensures in
     omega (arith, m.0, m.1)
 
 pub next_rows-requires : goal.next_rows-requires
-next_rows-requires c = is_ready c.args.t c.args.line c.args.lines c.line_refusal-number.result c.line_refusal-number.ensures c.if-number-ne0.false c.bounds_of-sized.result c.bounds_of-sized.ensures c.if-sized-ne0.false
+next_rows-requires c = is_ready c.args.t c.in_ok-sized.sized c.in_ok-sized.ensures
 
 pub returns : goal.returns
-returns c = rows_answer c.args.t c.args.line c.args.lines c.line_refusal-number.result c.line_refusal-number.ensures c.if-number-ne0.false c.bounds_of-sized.result c.bounds_of-sized.ensures c.if-sized-ne0.false _ c.next_rows.ensures
+returns c = rows_answer c.args.t c.args.line c.args.lines c.in_ok-check_line.ensures c.in_ok-sized.sized c.in_ok-sized.ensures _ c.next_rows.ensures

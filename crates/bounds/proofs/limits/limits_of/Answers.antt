@@ -1,43 +1,37 @@
-use mathlib.Core.Path.{◌∙◌}
+use mathlib.Core.Path.{◌≡◌, ◌∙◌}
 use Prim.Native.Nat.{◌-◌}
 use native.Mathlib.Omega.{arith}
+use Rattle.model.specs.Bounds.{longest}
 use Rattle.table.specs.View.{view_table}
 use Rattle.bounds_arrivals.proofs.Views.{longest_is}
-use Rattle.bounds.proofs.Limiting.{none_of, some_of, limited_none, limited_idle, limited_busy, bound_fits, given_hold}
+use Rattle.bounds.proofs.Limiting.{none_of, some_of, limited_idle, limited_busy, bound_fits, given_hold}
 use Rattle.bounds.proofs.limits.limits_of.Goals as goal
+use Rattle.bounds.proofs.limits.limits_of.Goals.{After-longest-m}
 
-pub returns-then-hold-eq0 : goal.returns-then-hold-eq0
-returns-then-hold-eq0 c = limited_none (view_table c.args.t) c.args.p c.hold_of-hold.result c.if-hold-eq0.true c.hold_of-hold.ensures
-
-pub overflow_cast-result : goal.overflow_cast-result
-overflow_cast-result c = omega (arith, (c.hold_of-hold.ensures.smallest (omega arith)).most_is)
+own_longest : (c : After-longest-m) → c.longest-m.result ≡ longest (view_table c.args.t.table) c.args.p
+own_longest c = (rw c.one.ensures at c.longest-m.ensures.0) ∙ longest_is c.args.t.table c.args.p
 
 pub returns-then-m-eq0 : goal.returns-then-m-eq0
 returns-then-m-eq0 c =
-    limited_idle (view_table c.args.t) c.args.p c.hold_of-hold.result c.hold_of-hold.ensures
-    (none_of c.args.t c.args.p c.longest-m.result (c.longest-m.ensures.0 ∙ longest_is c.args.t c.args.p) c.requires.0 c.if-m-eq0.true)
+    let t = c.args.t in
+    limited_idle (view_table t.table) c.args.p c.in_ok-hold.hold c.in_ok-hold.ensures (none_of t.table c.args.p c.longest-m.result (own_longest c.before) t.passes c.if-m-eq0.true)
 
 pub peak_of-peak-requires : goal.peak_of-peak-requires
-peak_of-peak-requires c = (
-  given_hold (view_table c.args.t) c.args.p c.blocking_of-b.result c.longest-m.result c.hold_of-hold.result c.hold_of-hold.ensures (omega arith) c.blocking_of-b.ensures.0 (c.longest-m.ensures.0 ∙ longest_is c.args.t c.args.p) (omega arith) (omega arith),
-  c.requires.0,
-)
-
-pub overflow_cast-result-2 : goal.overflow_cast-result-2
-overflow_cast-result-2 c = omega (arith, (c.hold_of-hold.ensures.smallest (omega arith)).most_is)
+peak_of-peak-requires c =
+    given_hold (view_table c.args.t.table) c.args.p c.blocking_of-b.result c.longest-m.result c.in_ok-hold.hold c.in_ok-hold.ensures c.blocking_of-b.ensures.0 (own_longest c.before) (omega arith) (omega arith)
 
 pub overflow_cast-result-3 : goal.overflow_cast-result-3
 overflow_cast-result-3 c =
-    omega (
-      arith,
-      bound_fits (view_table c.args.t) c.args.p c.hold_of-hold.result c.hold_of-hold.ensures (c.hold_of-hold.result - 1) c.peak_of-peak.result.backlog c.peak_of-peak.result.window (omega arith) c.peak_of-peak.ensures (c.hold_of-hold.ensures.smallest (omega arith))
-          (omega (arith, c.longest-m.ensures.0 ∙ longest_is c.args.t c.args.p, c.longest-m.ensures.1)),
-    )
-
-pub overflow_cast-result-4 : goal.overflow_cast-result-4
-overflow_cast-result-4 c = omega (arith, c.peak_of-peak.ensures.inside, (c.hold_of-hold.ensures.smallest (omega arith)).most_is)
+    let h = c.in_ok-hold.hold in
+    let i = c.in_ok-hold.ensures in
+    let p = c.peak_of-peak in
+    let few = own_longest c.before.before.before in
+    omega (arith, bound_fits (view_table c.args.t.table) c.args.p h i (h - 1) p.result.backlog p.result.window (omega (arith, i.least_is)) p.ensures (omega (arith, c.longest-m.ensures.1)))
 
 pub returns : goal.returns
 returns c =
-    limited_busy (view_table c.args.t) c.args.p c.hold_of-hold.result c.hold_of-hold.ensures (c.hold_of-hold.result - 1) c.peak_of-peak.result.backlog c.peak_of-peak.result.window (omega arith) c.peak_of-peak.ensures
-    (some_of c.args.t c.args.p c.longest-m.result (c.longest-m.ensures.0 ∙ longest_is c.args.t c.args.p) (omega arith))
+    let h = c.in_ok-hold.hold in
+    let i = c.in_ok-hold.ensures in
+    let p = c.peak_of-peak in
+    limited_busy (view_table c.args.t.table) c.args.p h i (h - 1) p.result.backlog p.result.window (omega (arith, i.least_is)) p.ensures
+    (some_of c.args.t.table c.args.p c.longest-m.result ((rw c.one.ensures at c.longest-m.ensures.0) ∙ longest_is c.args.t.table c.args.p) (omega arith))

@@ -17,7 +17,7 @@ pub overflow_add-half : goal.overflow_add-half
 overflow_add-half c = omega (arith, c.loop-low.invariant.most)
 
 pub with_jitter-u-requires : goal.with_jitter-u-requires
-with_jitter-u-requires c = in_array c.args.t (sized c.args.t _ c.well_formed.0) c.requires.0 c.args.i c.requires.1
+with_jitter-u-requires c = in_array c.args.t.table (sized c.args.t.table _ c.well_formed.0.1.1.0) c.args.t.passes c.args.i c.requires
 
 pub overflow_add-low : goal.overflow_add-low
 overflow_add-low c = omega (arith, c.loop-low.invariant.most)
@@ -27,16 +27,16 @@ loop-low-smaller-then-suffice c = omega arith
 
 pub loop-low-preserved-then-suffice : goal.loop-low-preserved-then-suffice
 loop-low-preserved-then-suffice c =
-    half_fits (view_table c.args.t) (get_or c.args.t.numbers c.args.i 0) c.loop-low.low c.loop-low.high _ c.loop-low.invariant (omega arith) (omega arith)
-    (fits_shown c.args.t (sized c.args.t _ c.well_formed.0) c.requires.0 c.args.i c.requires.1 _ c.with_jitter-u.result c.with_jitter-u.ensures _ (sym c.if-suffice.true ∙ c.suffice.ensures))
+    half_fits (view_table c.args.t.table) (get_or c.args.t.table.numbers c.args.i 0) c.loop-low.low c.loop-low.high _ c.loop-low.invariant (omega arith) (omega arith)
+    (fits_shown c.args.t.table (sized c.args.t.table _ c.well_formed.0.1.1.0) c.args.t.passes c.args.i c.requires _ c.with_jitter-u.result c.with_jitter-u.ensures _ (sym c.if-suffice.true ∙ c.suffice.ensures))
 
 pub loop-low-smaller : goal.loop-low-smaller
 loop-low-smaller c = omega arith
 
 pub loop-low-preserved : goal.loop-low-preserved
 loop-low-preserved c =
-    half_breaks (view_table c.args.t) (get_or c.args.t.numbers c.args.i 0) c.loop-low.low c.loop-low.high _ c.loop-low.invariant (omega arith) (omega arith)
-    (fits_shown c.args.t (sized c.args.t _ c.well_formed.0) c.requires.0 c.args.i c.requires.1 _ c.with_jitter-u.result c.with_jitter-u.ensures _ (sym c.if-suffice.false ∙ c.suffice.ensures))
+    half_breaks (view_table c.args.t.table) (get_or c.args.t.table.numbers c.args.i 0) c.loop-low.low c.loop-low.high _ c.loop-low.invariant (omega arith) (omega arith)
+    (fits_shown c.args.t.table (sized c.args.t.table _ c.well_formed.0.1.1.0) c.args.t.passes c.args.i c.requires _ c.with_jitter-u.result c.with_jitter-u.ensures _ (sym c.if-suffice.false ∙ c.suffice.ensures))
 
 pub returns : goal.returns
 returns c = record { last = halved_end _ _ c.loop-low.low c.loop-low.high c.loop-low.invariant (omega arith); most = omega (arith, c.loop-low.invariant.order, c.loop-low.invariant.most) }

@@ -3,11 +3,8 @@ use Rattle.table.proofs.Shape.{sized}
 use Rattle.overload_core.proofs.Filling.{joined_start, joined_more, joined_end}
 use Rattle.overload_core.proofs.rows.joined.Goals as goal
 
-pub overflow_cast-n : goal.overflow_cast-n
-overflow_cast-n c = omega arith
-
 pub loop-i-init : goal.loop-i-init
-loop-i-init c = (c.requires.1, omega arith, joined_start c.args.t c.args.front (sized c.args.front _ c.well_formed.0) c.args.k c.args.from)
+loop-i-init c = (omega arith, omega arith, rw (c.from-many.ensures, c.from-i.ensures) (joined_start c.args.t c.args.front (sized c.args.front _ c.well_formed.0) c.args.k c.args.from))
 
 pub offset_bounds-t-i : goal.offset_bounds-t-i
 offset_bounds-t-i c = omega arith
@@ -35,12 +32,6 @@ bounds-links-many c = omega arith
 
 pub overflow_add-many : goal.overflow_add-many
 overflow_add-many c = omega arith
-
-pub overflow_add-i : goal.overflow_add-i
-overflow_add-i c = omega arith
-
-pub loop-i-smaller : goal.loop-i-smaller
-loop-i-smaller c = omega arith
 
 pub loop-i-preserved : goal.loop-i-preserved
 loop-i-preserved c = (omega arith, omega arith, joined_more c.args.t c.loop-i.invariant.2 (sized c.args.t _ c.well_formed.1.1.0) (omega arith) c.requires.3 (omega arith))

@@ -1,14 +1,13 @@
+use Rattle.refusal.proofs.Numbers.{passed_on}
 use Rattle.port_refusals.specs.Reports.{view_report}
 use Rattle.port.proofs.Moved.{begun_refused, wait_accepted, begun_reached}
 use Rattle.port.proofs.advancing.advance.Goals as goal
 
-pub returns-then-refused-ne0 : goal.returns-then-refused-ne0
-returns-then-refused-ne0 c = let a = c.args in begun_refused a.p (view_report a.r) c.refusal-refused.ensures c.if-refused-ne0.true
+pub returns-in_err-check : goal.returns-in_err-check
+returns-in_err-check c = let a = c.args in rw (passed_on _ _ c.from_residual.ensures.1) (begun_refused a.p.now (view_report a.r) _ c.in_err-check.ensures)
 
-pub advanced-requires : goal.advanced-requires
-advanced-requires c = let a = c.args in wait_accepted a.p (view_report a.r) a.list.now c.refusal-refused.ensures c.if-refused-ne0.false c.tick_of.ensures
+pub move_to-requires : goal.move_to-requires
+move_to-requires c = let a = c.args in wait_accepted a.p.now (view_report a.r) a.list.now c.in_ok-check.ensures c.tick_of.ensures
 
 pub returns : goal.returns
-returns c =
-    let a = c.args in
-    begun_reached a.p (view_report a.r) a.list.now c.refusal-refused.ensures c.if-refused-ne0.false c.tick_of.ensures c.advanced.ensures
+returns c = let a = c.args in begun_reached a.p.now (view_report a.r) a.list.now c.in_ok-check.ensures c.tick_of.ensures c.move_to.ensures

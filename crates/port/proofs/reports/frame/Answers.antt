@@ -1,15 +1,15 @@
-use Rattle.port.proofs.Whole.{whole}
-use Rattle.port.proofs.Answers.{arrived, counts_it, frames}
+use Rattle.refusal.proofs.Numbers.{number_not_0, passed_on}
+use Rattle.port.proofs.Answers.{arrived, still_whole, counts_it, frames}
 use Rattle.port.proofs.reports.frame.Goals as goal
 
-pub returns-then-a-ne0 : goal.returns-then-a-ne0
-returns-then-a-ne0 c = c.advance-a.ensures.answered c.if-a-ne0.true
+pub returns-in_err-freed : goal.returns-in_err-freed
+returns-in_err-freed c = rw (passed_on _ _ c.from_residual.ensures.1) (c.in_err-freed.ensures.answered (number_not_0 _))
 
-pub judge-j-requires : goal.judge-j-requires
-judge-j-requires c = arrived c.args.p (whole c.args.p _ c.well_formed.0) c.args.tick c.args.line c.args.number c.args.«length» c.advance-a.ensures c.if-a-ne0.false
+pub judge-verdict-requires : goal.judge-verdict-requires
+judge-verdict-requires c = (still_whole c.args.p.now c.requires c.args.tick c.args.line c.args.number c.args.«length» c.in_ok-freed.ensures, arrived c.args.p.now c.requires c.args.tick c.args.line c.args.number c.args.«length» c.in_ok-freed.ensures)
 
-pub counted-port-requires : goal.counted-port-requires
-counted-port-requires c = counts_it c.args.p (whole c.args.p _ c.well_formed.0) c.args.tick c.args.line c.args.number c.args.«length» c.advance-a.ensures c.if-a-ne0.false c.judge-j.ensures
+pub count-requires : goal.count-requires
+count-requires c = counts_it c.args.p.now c.requires c.args.tick c.args.line c.args.number c.args.«length» c.in_ok-freed.ensures c.judge-verdict.ensures
 
 pub returns : goal.returns
-returns c = frames c.args.p (whole c.args.p _ c.well_formed.0) c.args.tick c.args.line c.args.number c.args.«length» c.advance-a.ensures c.if-a-ne0.false c.judge-j.ensures c.counted-port.ensures
+returns c = frames c.args.p.now c.requires c.args.tick c.args.line c.args.number c.args.«length» c.in_ok-freed.ensures c.judge-verdict.result c.judge-verdict.ensures c.count.ensures

@@ -7,28 +7,13 @@ pub returns-then-reports-ne0 : goal.returns-then-reports-ne0
 returns-then-reports-ne0 c = no_multiple c.args.reports.now c.if-reports-ne0.true
 
 pub loop-i-init : goal.loop-i-init
-loop-i-init c = (omega arith, refl)
-
-pub overflow_mul-i : goal.overflow_mul-i
-overflow_mul-i c = omega arith
-
-pub offset_bounds-reports-i : goal.offset_bounds-reports-i
-offset_bounds-reports-i c = omega arith
-
-pub bounds-reports-i : goal.bounds-reports-i
-bounds-reports-i c = omega arith
+loop-i-init c = refl
 
 pub returns-then-reports-i-gt1 : goal.returns-then-reports-i-gt1
-returns-then-reports-i-gt1 c = is_unknown c.args.reports.now c.loop-i.i c.loop-i.invariant.1 (omega arith) (omega arith)
-
-pub overflow_add-i : goal.overflow_add-i
-overflow_add-i c = omega arith
-
-pub loop-i-smaller : goal.loop-i-smaller
-loop-i-smaller c = omega arith
+returns-then-reports-i-gt1 c = is_unknown c.args.reports.now c.loop-i.i c.loop-i.invariant (omega arith) (omega arith)
 
 pub loop-i-preserved : goal.loop-i-preserved
-loop-i-preserved c = (omega arith, is_known c.args.reports.now c.loop-i.i c.loop-i.invariant.1 (omega arith) (omega arith))
+loop-i-preserved c = is_known c.args.reports.now c.loop-i.i c.loop-i.invariant (omega arith) (omega arith)
 
 pub returns : goal.returns
-returns c = all_known c.args.reports.now c.loop-i.i c.loop-i.invariant.1 (omega arith)
+returns c = all_known c.args.reports.now c.loop-i.i c.loop-i.invariant (omega arith)

@@ -4,4 +4,4 @@ use Rattle.redundancy.proofs.Selecting.{selecting}
 use Rattle.redundancy.proofs.State.select.Goals as goal
 
 pub returns : goal.returns
-returns c = selecting c.args.a.now c.args.b.now c.args.at_a c.args.at_b (view_state c.args.self) (view_decision c.decide-decision.result) c.part-part.result.now c.decide-decision.ensures c.part-part.ensures
+returns c = selecting c.args.a c.args.b (view_state c.args.self) (view_decision c.decide-decision.result) c.part-part.result.now c.decide-decision.ensures c.part-part.ensures

@@ -3,8 +3,8 @@ use Rattle.table.specs.View.{view_link}
 use Rattle.table.proofs.Ranges.{line_past, priority_past, code_past, least_below, least_above_greatest, greatest_past, jitter_within}
 use Rattle.table.proofs.checks.fields_in_range.Goals as goal
 
-pub returns-then-lines-u8_as_u16 : goal.returns-then-lines-u8_as_u16
-returns-then-lines-u8_as_u16 c = λ n h. line_past c.args.lines (view_link n c.args.link) h (omega arith)
+pub returns-then-lines-from : goal.returns-then-lines-from
+returns-then-lines-from c = λ n h. line_past c.args.lines (view_link n c.args.link) h (omega arith)
 
 pub returns-then-link-gt7 : goal.returns-then-link-gt7
 returns-then-link-gt7 c = λ n h. priority_past c.args.lines (view_link n c.args.link) h (omega arith) (omega arith)

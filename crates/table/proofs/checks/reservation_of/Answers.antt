@@ -4,5 +4,4 @@ use Rattle.table.proofs.checks.reservation_of.Goals as goal
 
 pub returns : goal.returns
 returns c =
-    reservation_shifted c.args.link c.u16_as_u32.result c.excess.result c.u16_as_u32.ensures.0 c.u16_as_u32.ensures.1
-    (omega (arith, c.excess.ensures, c.u8_as_u64.ensures.0))
+    reservation_shifted c.args.link c.from.result c.saturating_sub.result c.from.ensures (omega (arith, c.from.ensures)) c.saturating_sub.ensures

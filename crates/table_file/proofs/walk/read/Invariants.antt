@@ -1,10 +1,8 @@
--- The reader's loop: so many turns are left at most, and what was taken in so far is the model's.
-use Prim.Native.Nat.{◌-◌}
-use Rattle.table_file.proofs.Turns.{Turn}
+-- The reader's loop: the links read so far are the model's.
+use mathlib.Core.Path.{◌≡◌}
+use Prim.Native.Nat.{◌+◌}
+use Rattle.table_file.proofs.ReadSteps.{SoFar}
 use Rattle.table_file.proofs.walk.read.Given as goal
 
-abbrev pub invariant-loop-step : goal.invariant-loop-step
-invariant-loop-step l = Turn (258 - l.w.read) l.file l.w.rest.now l.w.read l.step l.numbers l.links
-
-abbrev pub decreases-loop-step : goal.decreases-loop-step
-decreases-loop-step l = 258 - l.w.read
+abbrev pub invariant-loop-i : goal.invariant-loop-i
+invariant-loop-i l = (l.n ≡ l.count) × (l.w.read ≡ l.i + 1) × SoFar l.file l.lines l.count l.numbers l.links l.previous l.w.rest.now l.w.read

@@ -1,6 +1,0 @@
--- `batch_cases::rows::freed` is safe: the sum stays within what the answers can tell of. Assumes nothing.
-use Prim.Native.Nat.{◌*◌, ◌≤◌}
-use Rattle.batch_cases.proofs.rows.freed.Given as goal
-
-abbrev pub invariant-loop-i : goal.invariant-loop-i
-invariant-loop-i l = (l.n ≤ 2133) × (l.sum ≤ 6400 * l.i)

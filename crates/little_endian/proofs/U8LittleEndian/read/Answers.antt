@@ -1,0 +1,7 @@
+use mathlib.Core.Path.{◌∙◌}
+use native.Mathlib.Omega.{arith}
+use Rattle.little_endian.proofs.Numbers.{summed}
+use Rattle.little_endian.proofs.U8LittleEndian.read.Goals as goal
+
+pub returns : goal.returns
+returns c = c.from_le_bytes.ensures ∙ summed 0 c.bytes_at.result (omega arith) ∙ c.bytes_at.ensures

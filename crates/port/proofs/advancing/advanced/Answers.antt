@@ -1,9 +1,0 @@
-use lib.ListN.{length}
-use Rattle.port.proofs.Moved.{ready, reaches}
-use Rattle.port.proofs.advancing.advanced.Goals as goal
-
-pub advance-moved-requires : goal.advance-moved-requires
-advance-moved-requires c = ready c.args.p c.args.time (length c.args.list.now) c.requires
-
-pub returns : goal.returns
-returns c = reaches c.args.p c.args.time c.requires c.advance-moved.ensures

@@ -1,8 +1,0 @@
--- `redundancy_recordings::calls::run` is safe and ends: the turns that are left fall. Assumes nothing.
-use Rattle.redundancy_recordings.proofs.calls.run.Given as goal
-
-abbrev pub invariant-loop-turns : goal.invariant-loop-turns
-invariant-loop-turns l = Unit {0}
-
-abbrev pub decreases-loop-turns : goal.decreases-loop-turns
-decreases-loop-turns l = l.turns
