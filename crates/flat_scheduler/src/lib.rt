@@ -35,8 +35,12 @@ fn sender_from(rings: &Rings, sender: Option<Sending>, tick: u64, time: u64) -> 
     requires { tick ≤ time }
     ensures { Positive (queues_in rings.now) → Sends (queues_in rings.now) (view_sender sender) tick → GoesOn (queues_in rings.now) (view_sender sender) tick time (view_sender result) }
 {
-    if sender.is_some() || time <= tick {
-        return sender;
+    // Made anew of its parts: a copy would carry along what stands between them.
+    if let Some(Sending { priority, start }) = sender {
+        return Some(Sending { priority, start });
+    }
+    if time <= tick {
+        return None;
     }
     start_if_any(rings, tick)
 }
