@@ -1,7 +1,7 @@
 // Internal to the product: a batch of reports, five numbers each, to a port that is lent whole.
 #![tactic(auto)]
 
-ghost use Rattle.std.specs.Prelude.{◌≡◌, ◌+◌, ◌*◌, ◌/◌, ◌≤◌, length};
+ghost use Rattle.std.specs.Prelude.{◌≡◌, ◌+◌, ◌*◌, ◌/◌, ◌≤◌, ◌<◌, length, get_or};
 ghost use Rattle.model.specs.Batch.{reports_in};
 ghost use Rattle.model.proofs.Reports.{report_at};
 ghost use Rattle.table.specs.View.{view_table};
@@ -15,19 +15,20 @@ use port_refusals::{Report, report_of};
 use refusal::Refusal;
 use table::Table;
 
-// The report whose five numbers stand from a place on.
+// The report whose five numbers stand from a place on. Of a wait the last three need not be there: they are not read.
 fn report_at(reports: &[u64], at: usize) -> Report
-    requires { at + 5 ≤ length reports.now }
+    requires { (at + 2 ≤ length reports.now) × (0 < get_or reports.now at 0 → at + 5 ≤ length reports.now) }
     ensures { view_report result ≡ report_at reports.now at }
 {
+    let form = reports[at];
+    let time = reports[at + 1];
+    if form == 0 {
+        return Report::Wait(time);
+    }
+    let line = reports[at + 2];
     let number = reports[at + 3];
-    report_of(
-        reports[at],
-        reports[at + 1],
-        reports[at + 2],
-        number,
-        reports[at + 4],
-    )
+    let bytes = reports[at + 4];
+    report_of(form, time, line, number, bytes)
 }
 
 // Whether any was accepted, with one report more.

@@ -98,6 +98,7 @@ module _ {t : Table} {l : Lists} {line len : ℕ} (z : Sized l) (k : Arrived t l
         port = λ clock sender. rw (← e) (ticked_shown clock sender);
         holds = k.holds;
         frames = omega arith;
+        heads = refl;
         behind = record { lines = lines_stay; accounts = refl; tallies = λ j a b. refl };
       }
 
@@ -111,6 +112,7 @@ module _ {t : Table} {l : Lists} {line len : ℕ} (z : Sized l) (k : Arrived t l
         port = λ clock sender. rw (← g.port clock sender, ← g.verdict_is clock sender, ← found, e, c.counted_is (length t.links) passing.counts.links_most within);
         holds = g.holds;
         frames = g.frames;
+        heads = g.heads;
         behind = record { lines = g.behind.lines; accounts = g.behind.accounts; tallies = c.behind (length t.links) within };
       }
 
@@ -173,6 +175,7 @@ module _ {t : Table} {l : Lists} {line len : ℕ} (z : Sized l) (k : Arrived t l
             port = λ clock sender. rw (judged_shown clock sender, q);
             holds = k.holds;
             frames = omega arith;
+            heads = refl;
             behind = record { lines = lines_stay; accounts = accounts_stay; tallies = λ j a b. refl };
           }
 
@@ -192,6 +195,7 @@ module _ {t : Table} {l : Lists} {line len : ℕ} (z : Sized l) (k : Arrived t l
               port = λ clock sender. rw (judged_shown clock sender, q, ← pe) (shown clock sender).port_is;
               holds = holds;
               frames = frames_more;
+              heads = kept.heads;
               behind = record { lines = lines_stay; accounts = accounts_stay; tallies = λ j a b. refl };
             }
           where

@@ -35,6 +35,27 @@ pub struct State {
     pub frames: u64,
 }
 
+impl State {
+    // Each case of the sender by itself: a copy of either would carry along what stands between its parts.
+    fn set(&mut self, clock: u64, sender: Option<Sending>, frames: u64)
+        ensures { self.new ≡ record { clock = clock; sender = sender; frames = frames } }
+    {
+        let Some(Sending { priority, start }) = sender else {
+            *self = State {
+                clock,
+                sender: None,
+                frames,
+            };
+            return;
+        };
+        *self = State {
+            clock,
+            sender: Some(Sending { priority, start }),
+            frames,
+        };
+    }
+}
+
 #[derive(Drop)]
 pub struct FlatPort {
     pub lists: Lists,
@@ -92,22 +113,14 @@ impl FlatPort {
         let moved = flat_scheduler::advance(rings, state.sender, state.clock, time, list);
         let left = state.frames - moved.frames;
         let Report::Frame(_, line, number, length) = report else {
-            self.state = State {
-                clock: time,
-                sender: moved.sender,
-                frames: left,
-            };
+            self.state.set(time, moved.sender, left);
             return Ok(Accepted {
                 verdict: None,
                 frames: moved.frames,
             });
         };
         let verdict = self.lists.judge(table, line, number, length, time);
-        self.state = State {
-            clock: time,
-            sender: moved.sender,
-            frames: left + stored(verdict),
-        };
+        self.state.set(time, moved.sender, left + stored(verdict));
         Ok(Accepted {
             verdict: Some(verdict),
             frames: moved.frames,

@@ -73,7 +73,7 @@ impl Rings {
     // Ring p without its oldest frame.
     pub fn pop(&mut self, p: usize)
         requires { (p < 8) × (0 < get_or self.old.counts p 0) }
-        ensures { (queues_in self.new ≡ without_head (queues_in self.old) p) × Kept self.old self.new }
+        ensures { (queues_in self.new ≡ without_head (queues_in self.old) p) × Kept self.old self.new × (self.new.frames ≡ self.old.frames) }
     {
         pop(&mut self.heads, &mut self.counts, p);
     }
@@ -81,7 +81,7 @@ impl Rings {
     // Ring p with one frame more, the last.
     pub fn push(&mut self, p: usize, number: u64, bytes: u64, arrival: u64)
         requires { HasRoom p self.old.counts }
-        ensures { (queues_in self.new ≡ queued_last (queues_in self.old) p (arrived number bytes arrival)) × Kept self.old self.new }
+        ensures { (queues_in self.new ≡ queued_last (queues_in self.old) p (arrived number bytes arrival)) × Kept self.old self.new × (self.new.heads ≡ self.old.heads) }
     {
         push(
             &mut self.frames,

@@ -61,7 +61,7 @@ fn put_queue(q: Queue, p: usize, rings: &mut Rings)
 #[inline(never)]
 pub fn put_queues(queues: [Queue; 8], rings: &mut Rings)
     requires { QueuesFit queues }
-    ensures { QueuesPut queues rings.new }
+    ensures { QueuesPut queues rings.new × (rings.new.heads ≡ rings.old.heads) }
 {
     for p in 0..8 {
         let q = queues[p];

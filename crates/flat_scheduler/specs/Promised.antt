@@ -22,6 +22,7 @@ pub record Leaving (r : Rings) (i from len k : ℕ) : Type 0 where
   pub room : k + 3 ≤ len
 
 pub record Departs (r : Rings) (i from end : ℕ) (list : List ℕ) (k : ℕ) (r' : Rings) (list' : List ℕ) : Type 0 where
+  pub frames_stay : r'.frames ≡ r.frames
   pub queues_are : queues_in r' ≡ without_head (queues_in r) i
   pub held_is : r'.held ≡ set r.held i (get_or r.held i 0 - occupied (get_or r.frames (from + 1) 0))
   pub marks_stay : r'.marks ≡ r.marks

@@ -35,8 +35,12 @@ fn sender_from(rings: &Rings, sender: Option<Sending>, tick: u64, time: u64) -> 
     requires { tick ≤ time }
     ensures { Positive (queues_in rings.now) → Sends (queues_in rings.now) (view_sender sender) tick → GoesOn (queues_in rings.now) (view_sender sender) tick time (view_sender result) }
 {
-    if sender.is_some() || time <= tick {
-        return sender;
+    // Made anew of its parts: a copy would carry along what stands between them.
+    if let Some(Sending { priority, start }) = sender {
+        return Some(Sending { priority, start });
+    }
+    if time <= tick {
+        return None;
     }
     start_if_any(rings, tick)
 }
@@ -52,7 +56,7 @@ fn depart(rings: &mut Rings, i: usize, from: usize, end: u64, list: &mut [u64], 
     rings.pop(i);
 }
 
-// Rings and sender from clock to time, frame by frame; the departures go to the list, three numbers each.
+// Rings and sender from clock to time, frame by frame; the departures go to the list, three numbers each. No slot is written.
 pub fn advance(
     rings: &mut Rings,
     mut sender: Option<Sending>,
@@ -61,7 +65,7 @@ pub fn advance(
     list: &mut [u64],
 ) -> Moved
     requires { Ready (queues_in rings.old) (view_sender sender) clock time (length list.old) × Holds rings.old.held (queues_in rings.old) }
-    ensures { Advanced (queues_in rings.old) (advanceOf time (at clock (queues_in rings.old) (view_sender sender))) (queues_in rings.new) (view_sender result.sender) result.frames list.old list.new × Holds rings.new.held (queues_in rings.new) × (rings.new.marks ≡ rings.old.marks) × Eight rings.old }
+    ensures { Advanced (queues_in rings.old) (advanceOf time (at clock (queues_in rings.old) (view_sender sender))) (queues_in rings.new) (view_sender result.sender) result.frames list.old list.new × Holds rings.new.held (queues_in rings.new) × (rings.new.marks ≡ rings.old.marks) × Eight rings.old × (rings.new.frames ≡ rings.old.frames) }
 {
     let mut tick = clock;
     let mut k: usize = 0;

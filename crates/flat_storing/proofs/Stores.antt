@@ -63,7 +63,7 @@ module _ {held : List ℕ} {qs : List (List Frame)} {marks : List ℕ} (k : Hold
 
 -- ---- what is touched
 pub nothing : (r : Rings) → Kept r 3 r
-nothing r = record { either = inr refl; stored = λ e. absurd (omega arith); dropped = λ e. refl }
+nothing r = record { either = inr refl; stored = λ e. absurd (omega arith); dropped = λ e. refl; heads = refl }
 
-pub one_frame : {r r' : Rings} (p : ℕ) (f : Frame) → p < length (queues_in r) → queues_in r' ≡ queued_last (queues_in r) p f → Kept r 0 r'
-one_frame {r} p f h q = record { either = inl refl; stored = λ e. rw q (frames_last (queues_in r) p f h); dropped = λ e. absurd (omega arith) }
+pub one_frame : {r r' : Rings} (p : ℕ) (f : Frame) → p < length (queues_in r) → queues_in r' ≡ queued_last (queues_in r) p f → r'.heads ≡ r.heads → Kept r 0 r'
+one_frame {r} p f h q e = record { either = inl refl; stored = λ e. rw q (frames_last (queues_in r) p f h); dropped = λ e. absurd (omega arith); heads = e }

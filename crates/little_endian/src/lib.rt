@@ -41,7 +41,9 @@ fn bytes_within<const K: usize>(s: &[u8], at: usize) -> [u8; K]
     requires { at + K ≤ length s.now }
     ensures { from_bytes result ≡ number_at at K s.now }
 {
-    *s[at..].first_chunk::<K>().unwrap()
+    let mut whole = [0u8; K];
+    whole.copy_from_slice(&s[at..at + K]);
+    whole
 }
 
 fn put_bytes<const K: usize>(s: &mut [u8], at: usize, bytes: [u8; K])

@@ -1,7 +1,8 @@
 // Internal to the product: reports, answers and departures as numbers in 8 little-endian bytes, and the refusals 19 and 20 of them.
 #![tactic(auto)]
 
-ghost use Rattle.std.specs.Prelude.{◌≡◌, ◌&&◌, ◌+◌, ◌*◌, ◌%◌, ◌≤◌, eqb, length};
+ghost use Rattle.std.specs.Prelude.{◌≡◌, ◌&&◌, ◌+◌, ◌*◌, ◌%◌, ◌≤◌, ◌<◌, eqb, length};
+ghost use Rattle.model.specs.TableFile.{number_at};
 ghost use Rattle.model.specs.Batch.{are_reports, numbers_in, bytes_of, bytes_refusal};
 ghost use Rattle.refusal.specs.Numbers.{number_or_0};
 ghost use Rattle.little_endian.specs.Output.{laid};
@@ -42,13 +43,16 @@ pub fn check(reports: &[u8], room: usize) -> Result<(), Refusal>
     Ok(())
 }
 
-// The report whose five numbers stand from a place on.
+// The report whose five numbers stand from a place on. Of a wait the last three need not be there: they are not read.
 pub fn report_at(reports: &[u8], at: usize) -> Report
-    requires { at + 40 ≤ length reports.now }
+    requires { (at + 16 ≤ length reports.now) × (0 < number_at at 8 reports.now → at + 40 ≤ length reports.now) }
     ensures { view_report result ≡ report_in reports.now at }
 {
     let form = u64::read_within(reports, at);
     let time = u64::read_within(reports, at + 8);
+    if form == 0 {
+        return Report::Wait(time);
+    }
     let line = u64::read_within(reports, at + 16);
     let number = u64::read_within(reports, at + 24);
     let bytes = u64::read_within(reports, at + 32);

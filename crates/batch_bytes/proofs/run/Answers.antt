@@ -14,7 +14,7 @@ pub overflow_mul-i : goal.overflow_mul-i
 overflow_mul-i c = omega (arith, c.loop-i.invariant.reports_short, c.loop-i.invariant.some_left)
 
 pub report_at-report-requires : goal.report_at-report-requires
-report_at-report-requires c = omega (arith, c.loop-i.invariant.some_left)
+report_at-report-requires c = (omega (arith, c.loop-i.invariant.some_left), λ h. omega (arith, c.loop-i.invariant.some_left))
 
 pub overflow_mul-written : goal.overflow_mul-written
 overflow_mul-written c = omega (arith, c.loop-i.invariant.within, c.loop-i.invariant.list_short)

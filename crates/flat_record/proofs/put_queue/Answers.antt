@@ -13,7 +13,7 @@ push-requires c = room_left (rw length_rings (omega arith)) c.loop-i.invariant c
 pub loop-i-preserved : goal.loop-i-preserved
 loop-i-preserved c =
     let w = queue_whole c.args.q _ c.well_formed.0 in
-    one_filled (rw length_rings (omega arith)) c.loop-i.invariant (omega arith) c.from.ensures c.from-in-loop-i.ensures c.push.ensures.0 c.push.ensures.1
+    one_filled (rw length_rings (omega arith)) c.loop-i.invariant (omega arith) c.from.ensures c.from-in-loop-i.ensures c.push.ensures.0 c.push.ensures.1 c.push.ensures.2
 
 pub returns : goal.returns
 returns c =

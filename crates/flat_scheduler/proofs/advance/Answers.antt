@@ -13,7 +13,7 @@ pub loop-sender-init : goal.loop-sender-init
 loop-sender-init c =
     let r = c.requires.0 in
     let eight : length (queues_in c.args.rings.now) ≡ 8 = rw length_rings (omega arith) in
-    (at_start eight r.few r.positive r.sender r.later r.room, c.requires.1, refl)
+    (at_start eight r.few r.positive r.sender r.later r.room, c.requires.1, refl, refl)
 
 pub sender_from-sender-requires : goal.sender_from-sender-requires
 sender_from-sender-requires c = c.loop-sender.invariant.0.later
@@ -92,6 +92,7 @@ loop-sender-preserved c =
       one_more i.0 goes (sends_from c.in-Some.is c.from-i.ensures) (wire_is) ((head_number c.loop-sender.rings.frames c.loop-sender.rings.heads c.loop-sender.rings.counts c.from-i.result c.slot-from.ensures on.waits)) (omega (arith, o.began, i.0.later)) gone d.list_is c.depart.auto.list,
       rw (gone, d.held_is) (holds_less i.1 c.from-i.result _ o.in_range o.waits (wire_is)),
       d.marks_stay ∙ i.2,
+      d.frames_stay ∙ i.3,
     )
 
 pub shape_of-list-in_default : goal.shape_of-list-in_default
@@ -100,7 +101,7 @@ shape_of-list-in_default c = c.loop-sender.invariant.0.same
 pub returns-in_default : goal.returns-in_default
 returns-in_default c =
     let g = c.sender_from-sender.ensures c.loop-sender.invariant.0.positive c.loop-sender.invariant.0.sends in
-    (ended c.loop-sender.invariant.0 (whole_is c.loop-sender.invariant.0 g (over_idle c.loop-sender.invariant.0 g (ap view_sender c.in_default.is))), c.loop-sender.invariant.1, c.loop-sender.invariant.2, record { queues = rw length_rings (omega arith); marks = omega arith })
+    (ended c.loop-sender.invariant.0 (whole_is c.loop-sender.invariant.0 g (over_idle c.loop-sender.invariant.0 g (ap view_sender c.in_default.is))), c.loop-sender.invariant.1, c.loop-sender.invariant.2, record { queues = rw length_rings (omega arith); marks = omega arith }, c.loop-sender.invariant.3)
 
 pub shape_of-list-then-time-sending : goal.shape_of-list-then-time-sending
 shape_of-list-then-time-sending c = c.loop-sender.invariant.0.same
@@ -113,4 +114,4 @@ returns-then-time-sending c =
     let i = c.loop-sender.invariant in
     let e = sends_from c.in-Some.is c.from-i.ensures in
     let under = over_sending i.0 goes e ((head_length c.loop-sender.rings.frames c.loop-sender.rings.heads c.loop-sender.rings.counts c.from-i.result c.slot-from.ensures on.waits)) (omega (arith, c.if-time-sending.true, o.began, i.0.later)) in
-    (rw c.in-Some.is at (ended i.0 (whole_is i.0 goes under)), i.1, i.2, record { queues = rw length_rings (omega arith); marks = omega arith })
+    (rw c.in-Some.is at (ended i.0 (whole_is i.0 goes under)), i.1, i.2, record { queues = rw length_rings (omega arith); marks = omega arith }, i.3)

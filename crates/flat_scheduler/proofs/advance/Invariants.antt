@@ -12,6 +12,7 @@ invariant-loop-sender l =
     Progress l.time (advanceOf l.time (at l.clock (queues_in l.initial.rings) (view_sender l.initial.sender))) (frames_held (queues_in l.initial.rings)) l.initial.list (queues_in l.rings) (view_sender l.sender) l.tick l.k l.list
     × Holds l.rings.held (queues_in l.rings)
     × (l.rings.marks ≡ l.initial.rings.marks)
+    × (l.rings.frames ≡ l.initial.rings.frames)
 
 abbrev pub decreases-loop-sender : goal.decreases-loop-sender
 decreases-loop-sender l = frames_held (queues_in l.rings)

@@ -36,5 +36,5 @@ returns c =
     rw (push.1.held, push.1.marks) (
       λ t s m. stores r.holds a.p a.size f r.ring t s m fits push.0 sum (rw push.1.marks at mark),
       holds_more r.holds a.p _ f r.ring sum push.0,
-      one_frame a.p f (omega (arith, r.ring, r.holds.queues_eight)) push.0,
+      one_frame a.p f (omega (arith, r.ring, r.holds.queues_eight)) push.0 push.2,
     )

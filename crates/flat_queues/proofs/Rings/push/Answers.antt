@@ -8,4 +8,4 @@ push-requires c =
     record { few = omega arith; slots = omega arith; head = omega arith; count = omega arith; free = h.unfilled }
 
 pub returns : goal.returns
-returns c = (c.push.ensures, record { held = refl; marks = refl })
+returns c = (c.push.ensures, record { held = refl; marks = refl }, refl)
