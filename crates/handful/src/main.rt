@@ -5,7 +5,7 @@
 
 mod lines;
 
-use output::messages::{end, refuse, tell};
+use output::messages::{refuse, tell};
 
 // The program's name alone.
 const WORDS: usize = 1;
@@ -19,7 +19,7 @@ fn main(rt: HostRuntime) {
         return;
     };
     let _ = match overload_core::core_of(t) {
-        Ok(kept) => end(lines::put(kept)),
-        Err(refusal) => refuse(refusal),
+        Ok(kept) => lines::print(kept),
+        Err(refusal) => refuse(refusal).outcome(),
     };
 }

@@ -88,14 +88,19 @@ fn is_arg<E: Env>(rt: &E, i: usize) -> bool {
     }
 }
 
-// Word i, put at the start of a buffer: empty where it is missing or longer than the buffer.
-pub fn arg<'a, E: Env>(rt: &E, i: usize, buf: &'a mut [u8]) -> &'a [u8]
+// Puts word i at the start of a buffer, and answers its length: 0 where it is missing or longer than the buffer.
+pub fn arg<E: Env>(rt: &E, i: usize, buf: &mut [u8]) -> usize
+    ensures { IsPrefixLen result buf.new }
+{
+    rt.arg(i, buf).unwrap_or(0)
+}
+
+// Word i, which the start of a buffer holds: empty where it is missing or longer than the buffer.
+pub fn word<'a, E: Env>(rt: &E, i: usize, buf: &'a mut [u8]) -> &'a [u8]
     ensures { length result.now ≤ length buf.old }
 {
-    match rt.arg(i, buf) {
-        Ok(n) => &buf[..n],
-        Err(_) => &[],
-    }
+    let n = arg(rt, i, buf);
+    &buf[..n]
 }
 
 // Opens the file of that name for reading, if it can be opened and the name is text.

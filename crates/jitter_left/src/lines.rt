@@ -3,7 +3,6 @@ use output::messages::{end, refuse};
 use output::{Out, STDERR_FILENO, STDOUT_FILENO};
 use refusal::Refusal;
 use std::fmt;
-use std::fmt::Write;
 use table::Table;
 use table_input::how_many;
 
@@ -13,33 +12,34 @@ const STEP: usize = 32;
 // The greatest jitter of the link of that number, or the refusal.
 pub(crate) fn print_one(t: Table, number: u64) {
     let _ = match jitter_margin::jitter_left(t, number) {
-        Ok(jitter) => end(put_one(jitter)),
-        Err(refusal) => refuse(refusal),
+        Ok(jitter) => put_one(jitter),
+        Err(refusal) => refuse(refusal).outcome(),
     };
 }
 
 fn put_one(jitter: u32) -> fmt::Result {
     let mut out = Out::new(STDOUT_FILENO);
-    writeln!(out, "{jitter}")?;
-    out.flush()
+    let printed = writeln!(out, "{jitter}");
+    end(&mut out, printed)
 }
 
 pub(crate) fn print_all(t: Table) {
-    let _ = end(put_all(t));
+    let mut out = Out::new(STDOUT_FILENO);
+    let printed = put_all(&mut out, t);
+    let _ = end(&mut out, printed);
 }
 
-fn put_all(t: Table) -> fmt::Result {
+fn put_all(out: &mut Out, t: Table) -> fmt::Result {
     let n = how_many(&t);
-    let mut out = Out::new(STDOUT_FILENO);
     writeln!(out, "number jitter greatest")?;
     for (i, (number, v)) in t.numbers.iter().zip(&t.links).take(n).enumerate() {
         if i != 0 && i % STEP == 0 {
             let _ = tell_progress(i, n);
         }
         write!(out, "{number} {} ", v.jitter)?;
-        put_left(&mut out, jitter_margin::jitter_left(t, u64::from(*number)))?;
+        put_left(out, jitter_margin::jitter_left(t, u64::from(*number)))?;
     }
-    out.flush()
+    Ok(())
 }
 
 // Where it can't be told the run goes on.

@@ -15,7 +15,7 @@ const WITH_NUMBER: usize = 2;
 fn main(rt: HostRuntime) {
     let asked = match input::arg_count(&rt) {
         WITHOUT_NUMBER => Some(None),
-        WITH_NUMBER => input::read_numeral(input::arg(&rt, 1, &mut io::buffer())).map(Some),
+        WITH_NUMBER => input::read_numeral(input::word(&rt, 1, &mut io::buffer())).map(Some),
         _ => None,
     };
     match asked {

@@ -38,7 +38,7 @@ fn words(rt: &HostRuntime) -> Option<Asked> {
     }
     let mut numbers = [0u64; WITH_SIZES];
     for i in 1..n {
-        numbers[i] = input::read_numeral(input::arg(rt, i, &mut io::buffer()))?;
+        numbers[i] = input::read_numeral(input::word(rt, i, &mut io::buffer()))?;
     }
     Some(Asked {
         line: numbers[1],
@@ -49,7 +49,7 @@ fn words(rt: &HostRuntime) -> Option<Asked> {
 
 fn with_asked(rt: &HostRuntime, asked: Asked) {
     let mut file = [0u8; ROOM];
-    if let Some(n) = table_input::read_file(rt, &mut file) {
+    if let Ok(n) = table_input::read_file(rt, &mut file) {
         put_next(rt, &file[..n], asked);
     }
 }

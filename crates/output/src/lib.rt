@@ -6,18 +6,18 @@ pub mod messages;
 ghost use Rattle.std.specs.Prelude.{◌≡◌, ◌≤◌, true, false, IsOk, ◌↔◌};
 
 use std::fmt;
-use std::fmt::Write;
+use std::fmt::{Display, Write};
 
 // The files that a program begins with and writes to.
 pub const STDOUT_FILENO: i32 = 1;
 
 pub const STDERR_FILENO: i32 = 2;
 
-const ROOM: usize = 8192;
+pub const ROOM: usize = 8192;
 
 // Writes to a file, by `write!` and the like. A write that failed stays known: no call behind it answers Ok.
 // (no heap, fixed memory: an array, and how many bytes of it are collected)
-#[derive(Drop)]
+#[derive(Clone, Copy)]
 pub struct Out {
     fd: i32,
     room: [u8; ROOM],
@@ -30,7 +30,11 @@ pub struct Out {
 impl Write for Out {
     ghost write_str_gives = { λ old bytes new. (old.failed ≡ false) × (new.failed ≡ false) };
 
-    fn write_str(&mut self, text: &str) -> fmt::Result {
+    fn write_str(&mut self, text: &str) -> fmt::Result
+        ensures ok { IsOk result → (self.old.failed ≡ false) × (self.new.failed ≡ false) }
+        ensures outcome { IsOk result ↔ (self.new.failed ≡ false) }
+        ensures known { self.old.failed ≡ true → self.new.failed ≡ true }
+    {
         self.bytes(text.as_bytes())
     }
 }
@@ -45,6 +49,17 @@ impl Out {
             length: 0,
             failed: false,
         }
+    }
+
+    // What `write!` and `writeln!` call. A value that can't be printed counts as a write that failed.
+    pub fn write_fmt<D: Display + Drop>(&mut self, value: D) -> fmt::Result
+        ensures outcome { IsOk result ↔ (self.new.failed ≡ false) }
+        ensures known { self.old.failed ≡ true → self.new.failed ≡ true }
+    {
+        let had_failed = self.failed;
+        let printed = self.write(value);
+        self.failed = had_failed || self.failed || printed.is_err();
+        self.outcome()
     }
 
     // Bytes that need not be text.
@@ -85,7 +100,8 @@ impl Out {
         self.outcome()
     }
 
-    fn outcome(&self) -> fmt::Result
+    // Whether every write so far took what it was given.
+    pub fn outcome(&self) -> fmt::Result
         ensures { IsOk result ↔ (self.now.failed ≡ false) }
     {
         if self.failed { Err(fmt::Error) } else { Ok(()) }

@@ -4,7 +4,6 @@ use crate::source::Source;
 use output::{Out, STDOUT_FILENO};
 use redundancy::{Network, State, Waiting};
 use std::fmt;
-use std::fmt::Write;
 
 // Why a run ends before both recordings have: one has something other than a frame, or can't be read; a call is refused; a write
 // failed.

@@ -11,48 +11,55 @@ use calls::Stop;
 use output::messages::tell;
 use redundancy::Network;
 use source::Source;
-use std::fmt;
 
 fn main(rt: HostRuntime) {
     if input::arg_count(&rt) != 4 {
-        let _ = tell_usage();
+        tell_usage();
         return;
     }
-    let _ = match input::read_numeral(input::arg(&rt, 1, &mut io::buffer())) {
+    match input::read_numeral(input::word(&rt, 1, &mut io::buffer())) {
         Some(skew) => with_skew(&rt, skew),
         None => tell_usage(),
-    };
+    }
 }
 
-fn tell_usage() -> fmt::Result {
-    tell("usage: redundancy SKEW A B", b"")
+fn tell_usage() {
+    let _ = tell("usage: redundancy SKEW A B", b"");
 }
 
-fn with_skew(rt: &HostRuntime, skew: u64) -> fmt::Result {
+fn with_skew(rt: &HostRuntime, skew: u64) {
     let mut first = io::buffer();
     let mut second = io::buffer();
-    let a = input::arg(rt, 2, &mut first);
-    let b = input::arg(rt, 3, &mut second);
-    with_names(rt, skew, a, b)
+    let a = input::word(rt, 2, &mut first);
+    let b = input::word(rt, 3, &mut second);
+    with_names(rt, skew, a, b);
 }
 
-fn with_names(rt: &HostRuntime, skew: u64, a: &[u8], b: &[u8]) -> fmt::Result {
+fn with_names(rt: &HostRuntime, skew: u64, a: &[u8], b: &[u8]) {
     if is_input(a) && is_input(b) {
-        return tell_usage();
+        tell_usage();
+        return;
     }
     let Some(source_a) = opened(rt, a) else {
-        return tell("can't open ", a);
+        let _ = tell("can't open ", a);
+        return;
     };
     let Some(source_b) = opened(rt, b) else {
-        return tell("can't open ", b);
+        let _ = tell("can't open ", b);
+        return;
     };
-    match calls::run(skew, source_a, source_b) {
-        Ok(()) => Ok(()),
-        Err(Stop::Unread(Network::A)) => tell("can't read ", a),
-        Err(Stop::Unread(Network::B)) => tell("can't read ", b),
-        Err(Stop::Refused) => tell("refused", b""),
-        Err(Stop::Unwritten) => tell("can't write", b""),
+    if let Err(stop) = calls::run(skew, source_a, source_b) {
+        tell_stop(stop, a, b);
     }
+}
+
+fn tell_stop(stop: Stop, a: &[u8], b: &[u8]) {
+    let _ = match stop {
+        Stop::Unread(Network::A) => tell("can't read ", a),
+        Stop::Unread(Network::B) => tell("can't read ", b),
+        Stop::Refused => tell("refused", b""),
+        Stop::Unwritten => tell("can't write", b""),
+    };
 }
 
 fn is_input(name: &[u8]) -> bool {

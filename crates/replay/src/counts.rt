@@ -5,7 +5,6 @@ use counter_sums::{Sums, sums_of_counts};
 use output::Out;
 use port::Port;
 use std::fmt;
-use std::fmt::Write;
 
 // A line for each link, then the unknown numbers and the grand total.
 pub(crate) fn put_counts(out: &mut Out, port: &Port) -> fmt::Result {

@@ -24,41 +24,51 @@ const TABLE: usize = 4653;
 
 fn main(rt: HostRuntime) {
     if input::arg_count(&rt) != 3 {
-        let _ = tell("usage: replay TABLE REPORTS", b"");
+        say("usage: replay TABLE REPORTS", b"");
         return;
     }
-    with_table(&rt, input::arg(&rt, 1, &mut io::buffer()));
+    with_table(&rt, input::word(&rt, 1, &mut io::buffer()));
 }
 
 fn with_table(rt: &HostRuntime, name: &[u8]) {
     let Some(mut fd) = input::open_read(rt, name) else {
-        let _ = tell("can't open ", name);
+        say("can't open ", name);
         return;
     };
     let mut file = [0u8; TABLE];
     let Ok(n) = input::read(&mut fd, &mut file) else {
-        let _ = tell("can't read ", name);
+        say("can't read ", name);
         return;
     };
     match table_file::read(&file[..n]) {
-        Ok(t) => with_reports(rt, t, input::arg(rt, 2, &mut io::buffer())),
-        Err(refusal) => {
-            let _ = refuse(refusal);
-        }
+        Ok(t) => with_reports(rt, t, input::word(rt, 2, &mut io::buffer())),
+        Err(refusal) => tell_stop(Stop::Refused(refusal), name),
     }
 }
 
 // The reports are read twice: nothing is printed of a file that has something else in it.
 fn with_reports(rt: &HostRuntime, t: Table, name: &[u8]) {
     let Some(mut fd) = input::open_read(rt, name) else {
-        let _ = tell("can't open ", name);
+        say("can't open ", name);
         return;
     };
-    let _ = match run(t, &mut fd) {
-        Ok(()) => Ok(()),
-        Err(Stop::Refused(refusal)) => refuse(refusal),
-        Err(Stop::Unread) => tell("can't read ", name),
-        Err(Stop::Unwritten) => tell("can't write", b""),
+    if let Err(stop) = run(t, &mut fd) {
+        tell_stop(stop, name);
+    }
+}
+
+// This and the next apart from their callers, on whose stack the reports run.
+#[inline(never)]
+fn say(what: &str, name: &[u8]) {
+    let _ = tell(what, name);
+}
+
+#[inline(never)]
+fn tell_stop(stop: Stop, name: &[u8]) {
+    let _ = match stop {
+        Stop::Refused(refusal) => refuse(refusal),
+        Stop::Unread => tell("can't read ", name),
+        Stop::Unwritten => tell("can't write", b""),
     };
 }
 

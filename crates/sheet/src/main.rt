@@ -8,7 +8,7 @@ use table_input::{ROOM, read_file};
 
 fn main(rt: HostRuntime) {
     let mut file = [0u8; ROOM];
-    if let Some(n) = read_file(&rt, &mut file) {
+    if let Ok(n) = read_file(&rt, &mut file) {
         print_sheet(&rt, &file[..n]);
     }
 }

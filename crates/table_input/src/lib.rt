@@ -1,11 +1,12 @@
 // Internal to the product: the table file that a program is given on standard input.
 #![tactic(auto)]
 
-ghost use Rattle.std.specs.Prelude.{◌≡◌, ◌≤◌, IfSome};
+ghost use Rattle.std.specs.Prelude.{◌≡◌, ◌<◌, ◌≤◌, length, IfSome, IfOk, IfErr};
 ghost use Rattle.io.specs.Counts.{IsPrefixLen};
 ghost use Rattle.model.specs.Table.{table_refusal};
 ghost use Rattle.table.specs.View.{view_table};
 
+use input::CutShort;
 use output::messages::{refuse, tell};
 use table::Table;
 
@@ -20,19 +21,20 @@ pub fn read_table(rt: &HostRuntime) -> Option<Table>
     ensures { IfSome result (λ t. table_refusal (view_table t) ≡ 0) }
 {
     let mut file = [0u8; ROOM];
-    let n = read_file(rt, &mut file)?;
+    let n = read_file(rt, &mut file).ok()?;
     table_of(&file[..n])
 }
 
-// How many bytes of the file were read, or it is said that it can't be read.
-pub fn read_file(rt: &HostRuntime, file: &mut [u8]) -> Option<usize>
-    ensures { IfSome result (λ n. IsPrefixLen n file.new) }
+// How many bytes of the file were put at the start of the buffer; where it can't be read that is said too.
+pub fn read_file(rt: &HostRuntime, file: &mut [u8]) -> Result<usize, CutShort>
+    ensures ok { IfOk result (λ n. IsPrefixLen n file.new) }
+    ensures err { IfErr result (λ e. e.length < length file.new) }
 {
     let read = input::read(&mut rt.stdin(), file);
     if read.is_err() {
         let _ = tell("can't read the table file", b"");
     }
-    read.ok()
+    read
 }
 
 fn table_of(file: &[u8]) -> Option<Table>
