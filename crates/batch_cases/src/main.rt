@@ -6,7 +6,7 @@ mod lists;
 
 ghost use Rattle.std.specs.Prelude.{◌≤◌};
 
-use case_records::rows::print_rows;
+use case_records::rows::say_rows;
 use case_records::{record, sums};
 use lists::{NUMBERS, ROOM};
 use little_endian::LittleEndian;
@@ -30,7 +30,8 @@ fn next_case(rt: &HostRuntime) -> Result<()> {
     let n = take(rt, u16::read(&head, 1), &mut start);
     let mut reports = [0u8; ROOM];
     let k = take(rt, u16::read(&head, 3), &mut reports);
-    run(rt, &head, &start[..n], &reports[..k])
+    run(rt, &head, &start[..n], &reports[..k]);
+    Ok(())
 }
 
 // Reads bytes to the start of a buffer; how many there are.
@@ -43,14 +44,14 @@ fn take(rt: &HostRuntime, length: u16, bytes: &mut [u8; ROOM]) -> usize
 }
 
 // A port record, or a table file and, where it is not refused, its fresh port.
-fn run(rt: &HostRuntime, head: &[u8; HEAD], start: &[u8], reports: &[u8]) -> Result<()> {
+fn run(rt: &HostRuntime, head: &[u8; HEAD], start: &[u8], reports: &[u8]) {
     if head[0] == 2 {
-        return call_twice(rt, head, record::port_of(start), reports);
+        call_twice(rt, head, record::port_of(start), reports);
+        return;
     }
-    call_c(rt, head, start, reports)?;
-    match table_file::read(start).and_then(Port::fresh) {
-        Ok(port) => call_twice(rt, head, port, reports),
-        Err(_) => Ok(()),
+    call_c(rt, head, start, reports);
+    if let Ok(port) = table_file::read(start).and_then(Port::fresh) {
+        call_twice(rt, head, port, reports);
     }
 }
 
@@ -59,7 +60,7 @@ fn shows(head: &[u8; HEAD], bit: u8) -> bool {
     head[11] & bit != 0
 }
 
-fn call_c(rt: &HostRuntime, head: &[u8; HEAD], file: &[u8], reports: &[u8]) -> Result<()> {
+fn call_c(rt: &HostRuntime, head: &[u8; HEAD], file: &[u8], reports: &[u8]) {
     let mut answers = [0u8; ROOM];
     lists::lay(&mut answers);
     let mut departures = [0u8; ROOM];
@@ -67,19 +68,19 @@ fn call_c(rt: &HostRuntime, head: &[u8; HEAD], file: &[u8], reports: &[u8]) -> R
     let a = usize::from(u16::read(head, 5));
     let d = usize::from(u16::read(head, 7));
     let refused = in_bytes(file, reports, &mut answers, a, &mut departures, d);
-    println!(rt; "c {refused}")?;
+    let _ = println!(rt; "c {refused}");
     if refused == 0 && shows(head, 1) {
         let mut numbers = [0u64; NUMBERS];
         lists::numbers_of(&answers, &mut numbers);
         let mut list = [0u64; NUMBERS];
         lists::numbers_of(&departures, &mut list);
-        show(rt, &numbers, &list, reports.len() / 40)?;
+        show(rt, &numbers, &list, reports.len() / 40);
     }
-    print_sums(
+    say_sums(
         rt,
         sums::of_bytes(&answers, a),
         sums::of_bytes(&departures, d),
-    )
+    );
 }
 
 // The C call, lent so many bytes of each list.
@@ -97,19 +98,13 @@ fn in_bytes(
 }
 
 // So many answers, and the departures that they tell of.
-fn show(
-    rt: &HostRuntime,
-    answers: &[u64; NUMBERS],
-    list: &[u64; NUMBERS],
-    many: usize,
-) -> Result<()> {
-    print_rows(rt, answers, many)?;
-    print_rows(rt, list, lists::freed(answers, many))?;
-    Ok(())
+fn show(rt: &HostRuntime, answers: &[u64; NUMBERS], list: &[u64; NUMBERS], many: usize) {
+    say_rows(rt, answers, many);
+    say_rows(rt, list, lists::freed(answers, many));
 }
 
-fn print_sums(rt: &HostRuntime, answers: u64, departures: u64) -> Result<()> {
-    println!(rt; "sums {answers} {departures}")
+fn say_sums(rt: &HostRuntime, answers: u64, departures: u64) {
+    let _ = println!(rt; "sums {answers} {departures}");
 }
 
 // What two calls came to, how many reports they answered, and the port that the second handed back.
@@ -131,7 +126,7 @@ fn answered(b: Batched, numbers: usize) -> usize
     (numbers / 5).min(NUMBERS)
 }
 
-fn call_twice(rt: &HostRuntime, head: &[u8; HEAD], port: Port, reports: &[u8]) -> Result<()> {
+fn call_twice(rt: &HostRuntime, head: &[u8; HEAD], port: Port, reports: &[u8]) {
     let mut numbers = [0u64; NUMBERS];
     lists::numbers_of(reports, &mut numbers);
     let mut answers = [0u64; NUMBERS];
@@ -144,17 +139,17 @@ fn call_twice(rt: &HostRuntime, head: &[u8; HEAD], port: Port, reports: &[u8]) -
     let first = 5 * usize::from(u16::read(head, 9));
     let calls = two_calls(port, &numbers, first, n, &mut answers, a, &mut list, d);
     let (c, e) = (calls.first, calls.second);
-    print!(rt; "calls {} {} ", number_or_0(c), c.unwrap_or(0))?;
-    println!(rt; "{} {}", number_or_0(e), e.unwrap_or(0))?;
+    let _ = print!(rt; "calls {} {} ", number_or_0(c), c.unwrap_or(0));
+    let _ = println!(rt; "{} {}", number_or_0(e), e.unwrap_or(0));
     if shows(head, 2) {
-        show(rt, &answers, &list, calls.answered)?;
+        show(rt, &answers, &list, calls.answered);
     }
-    print_sums(rt, sums::of_list(&answers, a), sums::of_list(&list, d))?;
-    println!(rt;
+    say_sums(rt, sums::of_list(&answers, a), sums::of_list(&list, d));
+    let _ = println!(rt;
         "port {} {}",
         calls.port.clock,
         sums::of_port(calls.port, shows(head, 4))
-    )
+    );
 }
 
 // The first call takes some of the n numbers of reports, the second those behind them, on the port that the first handed back

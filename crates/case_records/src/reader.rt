@@ -1,5 +1,5 @@
 // The bytes of a case, read in order. What is behind their end counts as 0.
-ghost use Rattle.std.specs.Prelude.{◌≡◌, drop};
+ghost use Rattle.std.specs.Prelude.{◌≡◌, ◌+◌, ◌*◌, ℕ, min, drop};
 ghost use Rattle.model.specs.TableFile.{number_at};
 
 use little_endian::LittleEndian;
@@ -51,16 +51,19 @@ impl Reader<'_> {
     }
 
     // An array stands there as its last entry, how many are given, and these; those that are not given are like the last.
+    // Where each entry takes w bytes, all of them take as many as the clause says.
     pub fn array<T: Copy, const N: usize, F: Fn(&mut Reader<'_>) -> T>(
         &mut self,
         entry: F,
     ) -> [T; N]
         requires { F.IsAlwaysCallable entry }
+        ensures { (w : ℕ) → ((x : _) (e : T) (y : _) → F.post entry x e y → y.now.rest.now ≡ drop w x.now.rest.now) → self.new.rest.now ≡ drop (w + 2 + w * min (number_at w 2 self.old.rest.now) N) self.old.rest.now }
     {
         let last = entry(self);
         let given: u16 = self.number();
         let mut all = [last; N];
-        for x in all.iter_mut().take(usize::from(given)) {
+        let n = usize::from(given).min(N);
+        for x in &mut all[..n] {
             *x = entry(self);
         }
         all

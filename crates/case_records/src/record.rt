@@ -1,5 +1,5 @@
 // Table and port records of a case.
-ghost use Rattle.std.specs.Prelude.{◌≡◌};
+ghost use Rattle.std.specs.Prelude.{◌≡◌, ◌*◌, ◌<◌, ℕ, drop, slice_index};
 ghost use Rattle.model.specs.TableFile.{number_at};
 
 use crate::reader::Reader;
@@ -35,7 +35,12 @@ fn read_row(r: &mut Reader<'_>) -> (u16, VirtualLink) {
     (r.number(), read_link(r))
 }
 
-pub fn read_link(r: &mut Reader<'_>) -> VirtualLink {
+pub fn read_link(r: &mut Reader<'_>) -> VirtualLink
+    ensures bytes { (result.line ≡ number_at 0 1 r.old.rest.now) × (result.priority ≡ number_at 1 1 r.old.rest.now) × (result.code ≡ number_at 2 1 r.old.rest.now) }
+    ensures lengths { (result.least ≡ number_at 3 2 r.old.rest.now) × (result.greatest ≡ number_at 5 2 r.old.rest.now) }
+    ensures jitter { result.jitter ≡ number_at 7 4 r.old.rest.now }
+    ensures rest { r.new.rest.now ≡ drop 11 r.old.rest.now }
+{
     VirtualLink {
         line: r.number(),
         priority: r.number(),
@@ -46,8 +51,15 @@ pub fn read_link(r: &mut Reader<'_>) -> VirtualLink {
     }
 }
 
-pub fn read_sizes(r: &mut Reader<'_>) -> [u32; 8] {
-    array::from_fn(|_| r.number())
+pub fn read_sizes(r: &mut Reader<'_>) -> [u32; 8]
+    ensures sizes { (k : ℕ) → k < 8 → slice_index result k ≡ number_at (4 * k) 4 r.old.rest.now }
+    ensures rest { r.new.rest.now ≡ drop 32 r.old.rest.now }
+{
+    let mut sizes = [0u32; 8];
+    for size in &mut sizes {
+        *size = r.number();
+    }
+    sizes
 }
 
 // Clock, sender (kind, priority, start), table, line ticks, accounts, counts, the unknown one, queues.

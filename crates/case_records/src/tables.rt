@@ -1,4 +1,4 @@
-// Table records: read from standard input, and printed. Each answer says how much was printed.
+// Table records: read from standard input, and printed. What becomes of a write is as in rows.
 ghost use Rattle.std.specs.Prelude.{◌≡◌, ◌<◌, min, IfOk};
 
 use crate::record::table_of;
@@ -18,26 +18,45 @@ pub fn read(rt: &HostRuntime, length: u16) -> Table
     table_of(&bytes)
 }
 
-// The counts and the sizes, in the line that has begun.
+// The counts and the sizes, in the line that has begun; answers how many numbers.
+pub fn say_counts(rt: &HostRuntime, t: &Table) -> usize
+    ensures { result ≡ 10 }
+{
+    let _ = print_counts(rt, t);
+    10
+}
+
+// The same; an error where some of it could not be printed.
 pub fn print_counts(rt: &HostRuntime, t: &Table) -> Result<usize>
     ensures { IfOk result (λ n. n ≡ 10) }
 {
-    print!(rt; " {} {}", t.lines, t.count)?;
+    let mut printed = print!(rt; " {} {}", t.lines, t.count);
     for size in &t.sizes {
-        print!(rt; " {size}")?;
+        printed = printed.and(print!(rt; " {size}"));
     }
-    println!(rt)?;
+    printed.and(println!(rt))?;
     Ok(2 + t.sizes.len())
 }
 
-// A line for each link.
+// A line for each link; answers how many.
+pub fn say_links(rt: &HostRuntime, t: &Table) -> usize
+    ensures { result ≡ min t.now.count 256 }
+{
+    let _ = print_links(rt, t);
+    usize::from(t.count).min(256)
+}
+
+// The same; an error where some of it could not be printed.
 pub fn print_links(rt: &HostRuntime, t: &Table) -> Result<usize>
     ensures { IfOk result (λ n. n ≡ min t.now.count 256) }
 {
     let n = usize::from(t.count).min(256);
+    let mut printed = Ok(());
     for (number, v) in t.numbers.iter().zip(&t.links).take(n) {
-        print!(rt; "{number} {} {} ", v.line, v.priority)?;
-        println!(rt; "{} {} {} {}", v.code, v.least, v.greatest, v.jitter)?;
+        printed = printed
+            .and(print!(rt; "{number} {} {} ", v.line, v.priority))
+            .and(println!(rt; "{} {} {} {}", v.code, v.least, v.greatest, v.jitter));
     }
+    printed?;
     Ok(n)
 }

@@ -23,23 +23,22 @@ fn next_case(rt: &HostRuntime) -> Result<()> {
     let t = tables::read(rt, u16::read(&head, 0));
     let core = overload_core::core_of(t);
     let kept = core.unwrap_or(table::blank());
-    print!(rt; "handful {} {}", number_or_0(core), of_table(kept))?;
-    tables::print_counts(rt, &kept)?;
-    tables::print_links(rt, &kept)?;
-    print!(rt; "sold")?;
-    print_sold(rt, kept)?;
+    let _ = print!(rt; "handful {} {}", number_or_0(core), of_table(kept));
+    tables::say_counts(rt, &kept);
+    tables::say_links(rt, &kept);
+    say_sold(rt, "sold", kept);
     if table::check(t).is_ok() {
-        print!(rt; "given")?;
-        print_sold(rt, t)?;
+        say_sold(rt, "given", t);
     }
     Ok(())
 }
 
-// What is sold of each line, in the line that has begun.
-fn print_sold(rt: &HostRuntime, t: Table) -> Result<()> {
+// What is sold of each line.
+fn say_sold(rt: &HostRuntime, name: &str, t: Table) {
+    let _ = print!(rt; "{name}");
     let n = t.lines.min(24) as u8;
     for line in 0..n {
-        print!(rt; " {}", overload_core::sold_on(t, line))?;
+        let _ = print!(rt; " {}", overload_core::sold_on(t, line));
     }
-    println!(rt)
+    let _ = println!(rt);
 }

@@ -18,8 +18,9 @@ fn next_case(rt: &HostRuntime) -> Result<()> {
     let mut head = [0u8; HEAD];
     rt.stdin().read_exact(&mut head)?;
     let t = tables::read(rt, u16::read(&head, 8));
-    match jitter_margin::jitter_left(t, u64::read(&head, 0)) {
+    let _ = match jitter_margin::jitter_left(t, u64::read(&head, 0)) {
         Ok(jitter) => println!(rt; "0 {jitter}"),
         Err(refusal) => println!(rt; "{} 0", refusal.number()),
-    }
+    };
+    Ok(())
 }

@@ -37,55 +37,53 @@ fn next_case(rt: &HostRuntime) -> Result<()> {
     rt.stdin().read_exact(&mut body[..n])?;
     let mut many = [0u8; 2];
     rt.stdin().read_exact(&mut many)?;
-    let port = start(rt, head[0], &body)?;
-    run(rt, port, u16::read(&many, 0))
+    run(rt, start(rt, head[0], &body), u16::read(&many, 0));
+    Ok(())
 }
 
-fn start(rt: &HostRuntime, form: u8, body: &[u8]) -> Result<Port> {
+fn start(rt: &HostRuntime, form: u8, body: &[u8]) -> Port {
     if form == 2 {
-        println!(rt; "record")?;
-        return Ok(record::port_of(body));
+        let _ = println!(rt; "record");
+        return record::port_of(body);
     }
     // Where there is none, the port whose record is empty.
-    let fresh = Port::fresh(record::table_of(body));
-    let port = fresh.unwrap_or(record::port_of(&[]));
-    println!(rt;
-        "fresh {} {}",
-        number_or_0(fresh),
-        sums::of_port(port, true)
-    )?;
-    Ok(port)
+    let (refused, port) = match Port::fresh(record::table_of(body)) {
+        Ok(port) => (0, port),
+        Err(refusal) => (refusal.number(), record::port_of(&[])),
+    };
+    let _ = println!(rt; "fresh {refused} {}", sums::of_port(port, true));
+    port
 }
 
 // The whole port is summed at the end where no report was accepted.
-fn run(rt: &HostRuntime, start: Port, many: u16) -> Result<()> {
+fn run(rt: &HostRuntime, start: Port, many: u16) {
     let mut port = start;
     let mut moved = false;
     for _ in 0..many {
-        let a = next_report(rt, port)?;
+        let a = next_report(rt, port);
         port = a.port;
         moved |= a.outcome.is_ok();
     }
-    print_end(rt, port, !moved)?;
-    print_counts(rt, port)
+    say_end(rt, port, !moved);
+    say_counts(rt, port);
 }
 
 // Reads a report, whose end counts as 0 where the input has none, and prints the answer.
-fn next_report(rt: &HostRuntime, port: Port) -> Result<Answer> {
+fn next_report(rt: &HostRuntime, port: Port) -> Answer {
     let mut bytes = [0u8; REPORT];
     let _ = rt.stdin().read_exact(&mut bytes);
     let mut list = [FILLED; LIST];
     let room = usize::from(u16::read(&bytes, 1)).min(LIST);
     let a = report(port, &bytes, &mut list[..room]);
-    match a.outcome {
+    let _ = match a.outcome {
         Ok(accepted) => {
             let verdict = verdict_or_0(accepted.verdict);
-            print!(rt; "accepted {verdict} {} {}", accepted.frames, accepted.bytes)?;
+            print!(rt; "accepted {verdict} {} {}", accepted.frames, accepted.bytes)
         }
-        Err(refusal) => print!(rt; "{refusal}")?,
-    }
-    println!(rt; " {}", sums::of_list(&list, room))?;
-    Ok(a)
+        Err(refusal) => print!(rt; "{refusal}"),
+    };
+    let _ = println!(rt; " {}", sums::of_list(&list, room));
+    a
 }
 
 // Form, room of the list, tick, line, number, length.
@@ -103,29 +101,29 @@ fn report(port: Port, bytes: &[u8], list: &mut [u64]) -> Answer {
     port.frame(tick, line, number, length, list)
 }
 
-fn print_end(rt: &HostRuntime, port: Port, whole: bool) -> Result<()> {
-    print!(rt; "end {} {}", port.clock, sums::of_port(port, whole))?;
+fn say_end(rt: &HostRuntime, port: Port, whole: bool) {
+    let _ = print!(rt; "end {} {}", port.clock, sums::of_port(port, whole));
     for q in &port.queues {
-        print!(rt; " {} {}", held(*q), q.mark)?;
+        let _ = print!(rt; " {} {}", held(*q), q.mark);
     }
-    println!(rt)
+    let _ = println!(rt);
 }
 
-fn print_counts(rt: &HostRuntime, port: Port) -> Result<()> {
+fn say_counts(rt: &HostRuntime, port: Port) {
     let added = port_sums::sums_of(port);
     let of_links = added.map_or([0; 256], |s| s.sums);
     let total = added.ok().and_then(|s| s.total);
-    print!(rt;
+    let _ = print!(rt;
         "counts {} {} ",
         number_or_0(added),
         u8::from(total.is_some())
-    )?;
-    println!(rt;
+    );
+    let _ = println!(rt;
         "{} {} {}",
         total.unwrap_or(0),
         port.unknown,
         sums::of_list(&of_links, 256)
-    )
+    );
 }
 
 // The bytes of the frames up to the count, as far as the array goes.

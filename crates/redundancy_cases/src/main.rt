@@ -5,7 +5,7 @@
 use little_endian::LittleEndian;
 use output::{Out, STDOUT_FILENO};
 use redundancy::{Decision, Network, Numbered, State, Waiting};
-use redundancy_measure::{Measure, measured};
+use redundancy_measure::{Measure, MeasuredSelection, measured};
 use std::fmt;
 use std::fmt::Write;
 
@@ -22,29 +22,22 @@ const CALL: usize = 20;
 const FRAME: usize = 2048;
 
 fn main() {
-    let mut out = Out::new(STDOUT_FILENO);
-    let _ = put_cases(&mut out);
-    let _ = out.flush();
-}
-
-fn put_cases(out: &mut Out) -> fmt::Result {
     // Nothing says that the input ends, so the loop counts up to a number that no run uses up.
     for _ in 0..u64::MAX {
-        if !put_case(out)? {
+        if !next_case() {
             break;
         }
     }
-    Ok(())
 }
 
 // Reads a case and prints its lines; false where the input ends.
-fn put_case(out: &mut Out) -> Result<bool, fmt::Error> {
+fn next_case() -> bool {
     let mut head = [0u8; CASE];
     if io::read_full(STDIN_FILENO, &mut head) < CASE {
-        return Ok(false);
+        return false;
     }
-    put_calls(out, state_of(&head), head[0], u16::read(&head, 31))?;
-    Ok(true)
+    run(state_of(&head), head[0], u16::read(&head, 31));
+    true
 }
 
 fn state_of(head: &[u8; CASE]) -> State {
@@ -60,33 +53,48 @@ fn state_of(head: &[u8; CASE]) -> State {
 }
 
 // Each line has the state, or, in form 2, one behind the others.
-fn put_calls(out: &mut Out, start: State, form: u8, many: u16) -> fmt::Result {
+fn run(start: State, form: u8, many: u16) {
     let mut state = start;
     for _ in 0..many {
-        state = put_call(out, state, form)?;
+        let m = next_call(state);
+        print_call(m, form);
+        state = m.decision.state;
     }
     if form == 2 {
-        write!(out, "end")?;
-        put_state(out, state)?;
+        print_end(state);
     }
-    Ok(())
 }
 
-// The line of the next call, and the new state.
-fn put_call(out: &mut Out, state: State, form: u8) -> Result<State, fmt::Error> {
+// A line is written as soon as it is whole. A write that fails is passed over, so that the lines behind it are still tried.
+fn print_call(m: MeasuredSelection, form: u8) {
+    let mut out = Out::new(STDOUT_FILENO);
+    let _ = put_call(&mut out, m, form);
+    let _ = out.flush();
+}
+
+fn print_end(state: State) {
+    let mut out = Out::new(STDOUT_FILENO);
+    let _ = put_end(&mut out, state);
+    let _ = out.flush();
+}
+
+// Reads the frames of the next call, and makes it.
+fn next_call(state: State) -> MeasuredSelection {
     let mut head = [0u8; CALL];
     io::read_full(STDIN_FILENO, &mut head);
     let mut a = [0u8; FRAME];
     take(u16::read(&head, 0), &mut a);
     let mut b = [0u8; FRAME];
     take(u16::read(&head, 10), &mut b);
-    let after = put_answered(out, state, &head, &a, &b)?;
-    if form == 2 {
-        out.write_str("\n")?;
-    } else {
-        put_state(out, after)?;
-    }
-    Ok(after)
+    let on_a = Waiting {
+        frame: start_of(&a, u16::read(&head, 0)),
+        tick: u64::read(&head, 2),
+    };
+    let on_b = Waiting {
+        frame: start_of(&b, u16::read(&head, 10)),
+        tick: u64::read(&head, 12),
+    };
+    measured(state, on_a, on_b)
 }
 
 // Reads a frame to the start of bytes.
@@ -95,30 +103,23 @@ fn take(length: u16, bytes: &mut [u8]) {
     io::read_full(STDIN_FILENO, &mut bytes[..n]);
 }
 
-// Prints the answer, and hands the new state back.
-fn put_answered(
-    out: &mut Out,
-    state: State,
-    head: &[u8; CALL],
-    a: &[u8],
-    b: &[u8],
-) -> Result<State, fmt::Error> {
-    let on_a = Waiting {
-        frame: start_of(a, u16::read(head, 0)),
-        tick: u64::read(head, 2),
-    };
-    let on_b = Waiting {
-        frame: start_of(b, u16::read(head, 10)),
-        tick: u64::read(head, 12),
-    };
-    let m = measured(state, on_a, on_b);
-    put_answer(out, m.decision, m.measure)?;
-    Ok(m.decision.state)
-}
-
 fn start_of<'a>(bytes: &'a [u8], length: u16) -> &'a [u8] {
     let n = io::count(length as isize, bytes);
     &bytes[..n]
+}
+
+fn put_call(out: &mut Out, m: MeasuredSelection, form: u8) -> fmt::Result {
+    put_answer(out, m.decision, m.measure)?;
+    if form == 2 {
+        out.write_str("\n")
+    } else {
+        put_state(out, m.decision.state)
+    }
+}
+
+fn put_end(out: &mut Out, state: State) -> fmt::Result {
+    write!(out, "end")?;
+    put_state(out, state)
 }
 
 fn put_answer(out: &mut Out, d: Decision, m: Measure) -> fmt::Result {

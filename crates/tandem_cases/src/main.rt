@@ -5,7 +5,7 @@
 mod ports;
 mod reports;
 
-use case_records::tables::{print_counts, print_links};
+use case_records::tables::{say_counts, say_links};
 use little_endian::LittleEndian;
 use refusal::number_or_0;
 use std::io::{Read, Result};
@@ -25,11 +25,12 @@ fn next_case(rt: &HostRuntime) -> Result<()> {
     let t = case_records::tables::read(rt, u16::read(&head, 17));
     let next = tandem::next_table(t, line, u64::read(&head, 9));
     let rows = next.unwrap_or(table::blank());
-    print!(rt; "next {}", number_or_0(next))?;
-    print_counts(rt, &rows)?;
+    let _ = print!(rt; "next {}", number_or_0(next));
+    say_counts(rt, &rows);
     if head[0] == 1 {
-        print_links(rt, &rows)?;
-        return Ok(());
+        say_links(rt, &rows);
+    } else {
+        ports::run(rt, t, rows, line);
     }
-    ports::run(rt, t, rows, line)
+    Ok(())
 }
