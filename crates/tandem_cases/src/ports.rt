@@ -81,7 +81,10 @@ fn answered(
     list: &mut [u64],
     room: u16,
 ) -> Batched {
-    let port = Port::fresh(t).unwrap_or_else(|_| record::port_of(&[]));
+    let port = match Port::fresh(t) {
+        Ok(port) => port,
+        Err(_) => record::port_of(&[]),
+    };
     let n = (5 * usize::from(many)).min(numbers.len());
     let k = usize::from(room).min(list.len());
     port_batch::batch(port, &numbers[..n], answers, &mut list[..k])
