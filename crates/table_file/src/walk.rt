@@ -25,6 +25,8 @@ impl<'a> Walk<'a> {
         }
     }
 
+    // Set in place at each of its calls, with record_at and record_due: no record then goes through memory.
+    #[inline(always)]
     fn next(self, count: u16, lines: u16, previous: u16) -> Record
         ensures { said result ≡ due_at self.entry.rest.now self.entry.read count lines previous }
     {

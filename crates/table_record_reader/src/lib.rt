@@ -112,6 +112,7 @@ fn sizes_at(rest: &[u8]) -> Result<Record, Refusal>
 
 // The first record has the counts, then count records have a link each, and the last has the sizes.
 // The first link has no previous number.
+#[inline(always)]
 #[tactic(auto, unfolding(crate::specs::Records::due_at))]
 fn record_due(
     rest: &[u8],
@@ -132,6 +133,7 @@ fn record_due(
 }
 
 // The record that is due. Five plain parameters, and no struct: the paper puts the walk's over a reader on plain slices.
+#[inline(always)]
 #[tactic(auto, unfolding(crate::specs::Records::said))]
 pub fn record_at(rest: &[u8], read: usize, count: u16, lines: u16, previous: u16) -> Record
     ensures { said result ≡ due_at rest.now read count lines previous }
