@@ -1,11 +1,11 @@
 -- Three numbers stored at one slot: the frame there, and every other frame as it was.
-use mathlib.Core.Path.{◌≡◌, sym, ◌∙◌}
+use mathlib.Core.Path.{◌≡◌}
 use mathlib.Core.Logic.{◌≢◌}
-use mathlib.Core.List.{List, [], ◌∷◌, ◌++◌, append_assoc}
-use Prim.Native.Nat.{ℕ, suc, ◌+◌, ◌-◌, ◌*◌, ◌≤◌, ◌<◌}
+use mathlib.Core.List.{List, [], ◌∷◌, ◌++◌}
+use Prim.Native.Nat.{ℕ, ◌+◌, ◌-◌, ◌*◌, ◌≤◌, ◌<◌}
 use native.Mathlib.Omega.{arith}
 use lib.ListN.{length, get_or, set, take, drop, length-set}
-use lib.Seq.{get_or-set_same, get_or-set_other, sets-eq, drop-drop}
+use lib.Seq.{get_or-set_same, get_or-set_other, drop-drop}
 use borrow.Rule.Slice.PartMut.{put_mid}
 use Rattle.model.specs.Report.{arrived}
 use Rattle.flat_queues.specs.View.{frame_at}
@@ -16,13 +16,6 @@ put3 l k a b c = set (set (set l k a) (k + 1) b) (k + 2) c
 -- as a write to a part leaves them
 pub three_put : (l : List ℕ) (k a b c : ℕ) {part : List ℕ} → part ≡ a ∷ b ∷ c ∷ [] → put_mid k (k + 3 - k) l part ≡ take k l ++ (a ∷ b ∷ c ∷ drop (k + 3) l)
 three_put l k a b c q = let n : k + 3 - k ≡ 3 = omega arith in rw (n, q, drop-drop 3 k l)
-
-pub is_put3 : (l : List ℕ) (k a b c : ℕ) {part : List ℕ} → k + 3 ≤ length l → part ≡ a ∷ b ∷ c ∷ [] → put_mid k (k + 3 - k) l part ≡ put3 l k a b c
-is_put3 l k a b c h q =
-    let one : k + 1 ≡ suc k = omega arith in
-    let two : k + 2 ≡ suc (suc k) = omega arith in
-    let three = a ∷ b ∷ c ∷ [] in
-    three_put l k a b c q ∙ rw (one, two) (sym (sets-eq three l k h ∙ append_assoc (take k l) three (drop (k + 3) l)))
 
 module _ (l : List ℕ) (a b c : ℕ) where
   -- an index that is none of the three

@@ -52,7 +52,10 @@ pub fn push(
 {
     let n = counts[p];
     let at = slot(p, heads[p] % 256 + n);
-    frames[at..at + 3].copy_from_slice(&[number, bytes, arrival]);
+    // Each by itself: an array of the three is laid down, tested against the slot, and copied.
+    frames[at] = number;
+    frames[at + 1] = bytes;
+    frames[at + 2] = arrival;
     counts[p] = n + 1;
 }
 

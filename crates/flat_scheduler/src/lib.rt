@@ -51,7 +51,9 @@ fn depart(rings: &mut Rings, i: usize, from: usize, end: u64, list: &mut [u64], 
     ensures { Departs rings.old i from end list.old k rings.new list.new }
 {
     let wire = rings.frames[from + 1];
-    list[k..k + 3].copy_from_slice(&[rings.frames[from], wire, end]);
+    list[k] = rings.frames[from];
+    list[k + 1] = wire;
+    list[k + 2] = end;
     rings.held[i] = rings.held[i].saturating_sub(occupancy(wire));
     rings.pop(i);
 }

@@ -1,4 +1,4 @@
-use Rattle.flat_queues.proofs.Slots.{three_put}
+use Rattle.port_scheduler.proofs.Departed.{three_set}
 use Rattle.flat_scheduler.proofs.depart.Goals as goal
 
 pub returns : goal.returns
@@ -8,5 +8,5 @@ returns c =
       queues_are = c.pop.ensures.0;
       held_is = rw (c.pop.ensures.1.held, c.saturating_sub.ensures, c.occupancy.ensures.0);
       marks_stay = c.pop.ensures.1.marks;
-      list_is = three_put c.args.list.now c.args.k _ _ c.args.end c.copy_from_slice.ensures.after;
+      list_is = three_set c.args.list.now c.args.k _ _ c.args.end c.requires.room;
     }
