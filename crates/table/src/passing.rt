@@ -14,6 +14,8 @@ pub struct Passing {
 }
 
 impl Passing {
+    // Set in place at its calls, so that no table goes through a Result in memory.
+    #[inline(always)]
     pub fn of(table: Table) -> Result<Passing, Refusal>
         ensures refusal { number_or_0 result ≡ table_refusal (view_table table) }
         ensures same { IfOk result (λ p. p.table ≡ table) }
