@@ -99,6 +99,19 @@ fn is_new(skew: u64, last: Option<Numbered>, frame: Numbered) -> bool
     }
 }
 
+// What was handed on last, field by field: a copy of the whole would carry its padding from call to call, which costs half of one.
+fn kept(last: Option<Numbered>) -> Option<Numbered>
+    ensures { result ≡ last }
+{
+    match last {
+        None => None,
+        Some(frame) => Some(Numbered {
+            number: frame.number,
+            tick: frame.tick,
+        }),
+    }
+}
+
 // The last byte of a frame is its number; that of none is 0.
 fn with_number(w: Waiting<'_>) -> Numbered
     ensures { (result.number ≡ sequence_number w.entry.frame.now) × (result.tick ≡ w.entry.tick) }
@@ -165,7 +178,10 @@ impl State {
     {
         Decision {
             outcome: Err(refusal),
-            state: self,
+            state: State {
+                last: kept(self.last),
+                ..self
+            },
         }
     }
 
@@ -179,7 +195,7 @@ impl State {
             Network::B => (self.on_a, number),
         };
         let handed_on = self.goes_on(network, frame);
-        let last = if handed_on { Some(frame) } else { self.last };
+        let last = if handed_on { Some(frame) } else { kept(self.last) };
         Decision {
             outcome: Ok(Taken { network, handed_on }),
             state: State {
