@@ -99,7 +99,8 @@ fn is_new(skew: u64, last: Option<Numbered>, frame: Numbered) -> bool
     }
 }
 
-// What was handed on last, field by field: a copy of the whole would carry its padding from call to call, which costs half of one.
+// What was handed on last, made anew from its number and tick. A copy of the whole would also move the padding between them,
+// and that costs half of a call.
 fn kept(last: Option<Numbered>) -> Option<Numbered>
     ensures { result ≡ last }
 {
@@ -195,7 +196,11 @@ impl State {
             Network::B => (self.on_a, number),
         };
         let handed_on = self.goes_on(network, frame);
-        let last = if handed_on { Some(frame) } else { kept(self.last) };
+        let last = if handed_on {
+            Some(frame)
+        } else {
+            kept(self.last)
+        };
         Decision {
             outcome: Ok(Taken { network, handed_on }),
             state: State {
