@@ -163,15 +163,17 @@ impl State {
         if are_empty(a, b) {
             return self.refused(Refusal::BothEmpty);
         }
-        let (network, earlier) = if is_a_taken(a, b) {
-            (Network::A, a)
-        } else {
-            (Network::B, b)
-        };
-        if earlier.tick < self.taken {
+        // Each network has a branch of its own: one that chooses the frame first makes the next step wait for both ticks.
+        if is_a_taken(a, b) {
+            if a.tick < self.taken {
+                return self.refused(Refusal::BeforeLastTaken);
+            }
+            return self.taken(Network::A, with_number(a));
+        }
+        if b.tick < self.taken {
             return self.refused(Refusal::BeforeLastTaken);
         }
-        self.taken(network, with_number(earlier))
+        self.taken(Network::B, with_number(b))
     }
 
     fn refused(self, refusal: Refusal) -> Decision
