@@ -99,6 +99,20 @@ fn is_new(skew: u64, last: Option<Numbered>, frame: Numbered) -> bool
     }
 }
 
+// What was handed on last, made anew from its number and tick. A copy of the whole would also move the padding between them,
+// and that costs half of a call.
+fn kept(last: Option<Numbered>) -> Option<Numbered>
+    ensures { result ≡ last }
+{
+    match last {
+        None => None,
+        Some(frame) => Some(Numbered {
+            number: frame.number,
+            tick: frame.tick,
+        }),
+    }
+}
+
 // The last byte of a frame is its number; that of none is 0.
 fn with_number(w: Waiting<'_>) -> Numbered
     ensures { (result.number ≡ sequence_number w.entry.frame.now) × (result.tick ≡ w.entry.tick) }
@@ -149,15 +163,17 @@ impl State {
         if are_empty(a, b) {
             return self.refused(Refusal::BothEmpty);
         }
-        let (network, earlier) = if is_a_taken(a, b) {
-            (Network::A, a)
-        } else {
-            (Network::B, b)
-        };
-        if earlier.tick < self.taken {
+        // Each network has a branch of its own: one that chooses the frame first makes the next step wait for both ticks.
+        if is_a_taken(a, b) {
+            if a.tick < self.taken {
+                return self.refused(Refusal::BeforeLastTaken);
+            }
+            return self.taken(Network::A, with_number(a));
+        }
+        if b.tick < self.taken {
             return self.refused(Refusal::BeforeLastTaken);
         }
-        self.taken(network, with_number(earlier))
+        self.taken(Network::B, with_number(b))
     }
 
     fn refused(self, refusal: Refusal) -> Decision
@@ -165,7 +181,10 @@ impl State {
     {
         Decision {
             outcome: Err(refusal),
-            state: self,
+            state: State {
+                last: kept(self.last),
+                ..self
+            },
         }
     }
 
@@ -179,7 +198,11 @@ impl State {
             Network::B => (self.on_a, number),
         };
         let handed_on = self.goes_on(network, frame);
-        let last = if handed_on { Some(frame) } else { self.last };
+        let last = if handed_on {
+            Some(frame)
+        } else {
+            kept(self.last)
+        };
         Decision {
             outcome: Ok(Taken { network, handed_on }),
             state: State {

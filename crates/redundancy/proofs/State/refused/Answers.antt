@@ -5,4 +5,4 @@ use Rattle.redundancy.proofs.State.refused.Goals as goal
 
 pub returns : goal.returns
 unfolding refused_by
-returns c = refl
+returns c = rw c.kept.ensures refl

@@ -24,5 +24,5 @@ returns-else-handed_on c =
     = elim c.match-network.branch [ in-A w ↦ rw (w.in-A.is, w.on_a-is) refl | in-B w ↦ rw (w.in-B.is, w.on_a-is) refl ] in
     let on_b : view_received c.match-network.on_a.1 ≡ next_on_b (view_network c.args.network) c.args.frame.number (view_state c.args.self)
     = elim c.match-network.branch [ in-A w ↦ rw (w.in-A.is, w.on_a-is) refl | in-B w ↦ rw (w.in-B.is, w.on_a-is) refl ] in
-    decided c.args.self c.args.network c.args.frame c.goes_on-handed_on.result c.match-network.on_a.0 c.match-network.on_a.1 c.args.self.last
-    c.goes_on-handed_on.ensures on_a on_b (rw c.if-handed_on.false refl)
+    decided c.args.self c.args.network c.args.frame c.goes_on-handed_on.result c.match-network.on_a.0 c.match-network.on_a.1 c.kept-last.result
+    c.goes_on-handed_on.ensures on_a on_b (rw (c.if-handed_on.false, c.kept-last.ensures) refl)
