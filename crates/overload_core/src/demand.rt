@@ -8,9 +8,9 @@ use table::Table;
 use table::passing::Passing;
 
 // The sum of L × N_v(w) over all links.
-fn demand_of(t: Passing, w: u64) -> u64
+fn demand_of(t: &Passing, w: u64) -> u64
     requires { w ≤ 65536 }
-    ensures { (result ≡ demand (view_links t.table) w) × (result ≤ 6299648) }
+    ensures { (result ≡ demand (view_links t.now.table) w) × (result ≤ 6299648) }
 {
     let mut sum: u64 = 0;
     for &l in t.links() {
@@ -29,7 +29,7 @@ pub(crate) fn lacks(t: Table) -> bool
     let mut w: u64 = 1;
     // No index is counted: the climb goes on from what was sent, and no `for` is plainer.
     while w <= 65536 {
-        let sent = demand_of(passing, w - 1);
+        let sent = demand_of(&passing, w - 1);
         if sent <= w {
             return false;
         }
