@@ -4,6 +4,7 @@
 #![tactic(auto)]
 
 use output::messages::{refuse, tell};
+use refusal::Refusal;
 use std::array;
 use std::io::Print;
 use table_input::{LONGEST, ROOM};
@@ -25,7 +26,7 @@ fn main(rt: HostRuntime) {
     match words(&rt) {
         Some(asked) => with_asked(&rt, asked),
         None => {
-            let _ = tell("usage: next_table LINE LINES [SIZES]", b"");
+            say("usage: next_table LINE LINES [SIZES]");
         }
     }
 }
@@ -59,11 +60,22 @@ fn put_next(rt: &HostRuntime, file: &[u8], asked: Asked) {
     match next_file::next_file(file, asked.line, asked.lines, asked.sizes, &mut next) {
         Ok(n) => {
             if rt.write_all(&next[..n.min(LONGEST)]).is_err() {
-                let _ = tell("can't write", b"");
+                say("can't write");
             }
         }
         Err(refusal) => {
-            let _ = refuse(refusal);
+            say_refused(refusal);
         }
     }
+}
+
+// This and the next apart from their callers, on whose stack the file is written.
+#[inline(never)]
+fn say(what: &str) {
+    let _ = tell(what, b"");
+}
+
+#[inline(never)]
+fn say_refused(refusal: Refusal) {
+    let _ = refuse(refusal);
 }

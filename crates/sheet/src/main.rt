@@ -17,8 +17,14 @@ fn print_sheet(rt: &HostRuntime, file: &[u8]) {
     let text = sheet_text::text_of(file);
     let sheet = text.as_str();
     if rt.write_all(sheet.as_bytes()).is_err() {
-        let _ = tell("can't write", b"");
+        say("can't write");
     } else if sheet.starts_with("refused") {
-        let _ = tell("refused", b"");
+        say("refused");
     }
+}
+
+// Apart from its callers, on whose stack the sheet is made.
+#[inline(never)]
+fn say(what: &str) {
+    let _ = tell(what, b"");
 }

@@ -8,6 +8,7 @@ ghost use Rattle.table.specs.View.{view_table};
 
 use input::CutShort;
 use output::messages::{refuse, tell};
+use refusal::Refusal;
 use table::Table;
 
 // The largest file.
@@ -32,9 +33,20 @@ pub fn read_file(rt: &HostRuntime, file: &mut [u8]) -> Result<usize, CutShort>
 {
     let read = input::read(&mut rt.stdin(), file);
     if read.is_err() {
-        let _ = tell("can't read the table file", b"");
+        say_unread();
     }
     read
+}
+
+// This and the next apart from their callers, on whose stack the table is worked on.
+#[inline(never)]
+fn say_unread() {
+    let _ = tell("can't read the table file", b"");
+}
+
+#[inline(never)]
+fn say_refused(refusal: Refusal) {
+    let _ = refuse(refusal);
 }
 
 fn table_of(file: &[u8]) -> Option<Table>
@@ -43,7 +55,7 @@ fn table_of(file: &[u8]) -> Option<Table>
     match table_file::read(file) {
         Ok(t) => Some(t),
         Err(refusal) => {
-            let _ = refuse(refusal);
+            say_refused(refusal);
             None
         }
     }
