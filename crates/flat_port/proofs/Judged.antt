@@ -26,10 +26,10 @@ use Rattle.counters.specs.Promised.{Within, Tallied}
 use Rattle.flat_queues.specs.declared.Rings.{Rings}
 use Rattle.flat_queues.specs.View.{queues_in as queues_of_rings}
 use Rattle.flat_scheduler.specs.Promised.{Holds}
-use Rattle.flat_storing.specs.Storing.{Roomy, Shown, Settles, Kept}
+use Rattle.flat_storing.specs.Storing.{Roomy, Shown, Settles, Kept, KeptInPlace}
 use Rattle.flat_port.specs.declared.Lists.{Lists}
 use Rattle.flat_port.specs.Lists.{queues_in, view_lists}
-use Rattle.flat_port.specs.Promised.{Arrived, stored_by, judge_counted, Gives}
+use Rattle.flat_port.specs.Promised.{Arrived, stored_by, judge_counted, Gives, GivesInPlace}
 
 pub stored_most : (n : ℕ) → stored_by n ≤ 1
 unfolding stored_by
@@ -98,7 +98,6 @@ module _ {t : Table} {l : Lists} {line len : ℕ} (z : Sized l) (k : Arrived t l
         port = λ clock sender. rw (← e) (ticked_shown clock sender);
         holds = k.holds;
         frames = omega arith;
-        heads = refl;
         behind = record { lines = lines_stay; accounts = refl; tallies = λ j a b. refl };
       }
 
@@ -112,9 +111,16 @@ module _ {t : Table} {l : Lists} {line len : ℕ} (z : Sized l) (k : Arrived t l
         port = λ clock sender. rw (← g.port clock sender, ← g.verdict_is clock sender, ← found, e, c.counted_is (length t.links) passing.counts.links_most within);
         holds = g.holds;
         frames = g.frames;
-        heads = g.heads;
         behind = record { lines = g.behind.lines; accounts = g.behind.accounts; tallies = c.behind (length t.links) within };
       }
+
+  -- and the heads of the rings stay, here and of the other verdicts below
+  pub is_filtered_in_place : none ≡ admitted t line len (place_of number t.links) → GivesInPlace t l verdict_of 1 (ticked_lists l line time)
+  is_filtered_in_place e = record { gives = is_filtered e; heads = refl }
+
+  pub is_counted_in_place : {verdict : ℕ} {l₂ : Lists} → GivesInPlace t l verdict_of verdict l₂ → l₂.tallies ≡ l.tallies → {place : Option ℕ} → view_place place ≡ place_of number t.links → Within (length t.links) place →
+      {tallies : List ℕ} → Tallied place verdict l.tallies tallies → GivesInPlace t l (judge_counted t (frame time line number len)) verdict (tallied_lists l₂ tallies)
+  is_counted_in_place g e found within c = record { gives = is_counted g.gives e found within c; heads = g.heads }
 
   module _ (i : ℕ) (e : some i ≡ admitted t line len (place_of number t.links)) (below : i < length t.links) where
     abbrev v : VirtualLink
@@ -175,9 +181,11 @@ module _ {t : Table} {l : Lists} {line len : ℕ} (z : Sized l) (k : Arrived t l
             port = λ clock sender. rw (judged_shown clock sender, q);
             holds = k.holds;
             frames = omega arith;
-            heads = refl;
             behind = record { lines = lines_stay; accounts = accounts_stay; tallies = λ j a b. refl };
           }
+
+      pub is_policed_in_place : passed ≡ false → GivesInPlace t l verdict_of 2 l₂
+      is_policed_in_place q = record { gives = is_policed q; heads = refl }
 
       module _ (q : passed ≡ true) {p size : ℕ} (pe : p ≡ v.priority) (se : size ≡ size_of t p) where
         pub roomy : Roomy l.rings p size len
@@ -195,9 +203,13 @@ module _ {t : Table} {l : Lists} {line len : ℕ} (z : Sized l) (k : Arrived t l
               port = λ clock sender. rw (judged_shown clock sender, q, ← pe) (shown clock sender).port_is;
               holds = holds;
               frames = frames_more;
-              heads = kept.heads;
               behind = record { lines = lines_stay; accounts = accounts_stay; tallies = λ j a b. refl };
             }
           where
             frames_more : frames_held (queues_of_rings rings) ≡ frames_held (queues_in l) + stored_by verdict
             frames_more = ⊎_elim (λ e. rw e (kept.stored e)) (λ e. rw e (let d = kept.dropped e in rw d (omega arith))) kept.either
+
+        pub is_settled_in_place : {verdict : ℕ} {rings : Rings} →
+            ((t' : Table) (s : Port) → Shown t' s p size (queues_in l) l.rings.marks → Settles t' s p f verdict (queues_of_rings rings) rings.marks) →
+            Holds rings.held (queues_of_rings rings) → KeptInPlace l.rings verdict rings → GivesInPlace t l verdict_of verdict (settled_lists l line time accounts rings)
+        is_settled_in_place s holds k = record { gives = is_settled s holds k.kept; heads = k.heads }

@@ -92,7 +92,7 @@ module _ {t : Table} {p : FlatPort} (k : Stands t p) (r : Report) (before : List
 
     module _ {time : ℕ} (te : time ≡ tick_of r) (sender : Option Sending) (rings : Rings) {freed : ℕ} {after : List ℕ}
         (m : Advanced (queues_in l) (advance time (at s.clock (queues_in l) (view_sender s.sender))) (queues_of_rings rings) (view_sender sender) freed before after
-        × Holds rings.held (queues_of_rings rings) × (rings.marks ≡ l.rings.marks) × Eight l.rings × (rings.frames ≡ l.rings.frames)) where
+        × Holds rings.held (queues_of_rings rings) × (rings.marks ≡ l.rings.marks) × Eight l.rings) where
       abbrev l₁ : Lists
       l₁ = moved_lists l rings
 

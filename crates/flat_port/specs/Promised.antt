@@ -42,14 +42,18 @@ pub record Behind (t : Table) (l l' : Lists) : Type 0 where
   pub accounts : drop (length t.links) (map view_account l'.accounts) ≡ drop (length t.links) (map view_account l.accounts)
   pub tallies : (k : ℕ) → 5 * length t.links ≤ k → k < 1280 → get_or l'.tallies k 0 ≡ get_or l.tallies k 0
 
--- verdict and port are those that the model gives, whatever the clock and whoever sends; the heads of the rings stay
+-- verdict and port are those that the model gives, whatever the clock and whoever sends
 pub record Gives (t : Table) (l : Lists) (judge : Port → Judged) (verdict : ℕ) (l' : Lists) : Type 0 where
   pub verdict_is : (clock : ℕ) (sender : Sender) → verdict ≡ (judge (view_lists t clock sender l)).verdict
   pub port : (clock : ℕ) (sender : Sender) → view_lists t clock sender l' ≡ (judge (view_lists t clock sender l)).port
   pub holds : Held l'
   pub frames : frames_held (queues_in l') ≡ frames_held (queues_in l) + stored_by verdict
-  pub heads : l'.rings.heads ≡ l.rings.heads
   pub behind : Behind t l l'
+
+-- and the heads of the rings stay
+pub record GivesInPlace (t : Table) (l : Lists) (judge : Port → Judged) (verdict : ℕ) (l' : Lists) : Type 0 where
+  pub gives : Gives t l judge verdict l'
+  pub heads : l'.rings.heads ≡ l.rings.heads
 
 -- the numbers of an answer: "refusal number or 0, verdict, frames freed; the last two are 0 for a refusal"
 pub record Reported : Type 0 where

@@ -4,7 +4,7 @@ ghost use Rattle.model.specs.Report.{frame as frameReport, judge_report};
 ghost use Rattle.table.specs.View.{view_table};
 ghost use Rattle.port_refusals.specs.Verdicts.{verdict_of};
 ghost use Rattle.table_lookup.specs.Places.{Found};
-ghost use Rattle.flat_port.specs.Promised.{Arrived, judge_counted, Gives};
+ghost use Rattle.flat_port.specs.Promised.{Arrived, judge_counted, GivesInPlace};
 
 use crate::Lists;
 use counters::tally;
@@ -23,7 +23,7 @@ impl Lists {
         time: u64,
     ) -> Verdict
         requires { Arrived (view_table table.now) self.old line «length» × Found table.now.numbers table.now.count number place }
-        ensures { Gives (view_table table.now) self.old (λ s. judge_report (view_table table.now) s (frameReport time line number «length»)) (verdict_of result) self.new × (self.new.tallies ≡ self.old.tallies) }
+        ensures { GivesInPlace (view_table table.now) self.old (λ s. judge_report (view_table table.now) s (frameReport time line number «length»)) (verdict_of result) self.new × (self.new.tallies ≡ self.old.tallies) }
     {
         self.ticks[line as usize] = time;
         let Some(i) = place else {
@@ -52,7 +52,7 @@ impl Lists {
         time: u64,
     ) -> Verdict
         requires { Arrived (view_table table.now) self.old line «length» }
-        ensures { Gives (view_table table.now) self.old (judge_counted (view_table table.now) (frameReport time line number «length»)) (verdict_of result) self.new }
+        ensures { GivesInPlace (view_table table.now) self.old (judge_counted (view_table table.now) (frameReport time line number «length»)) (verdict_of result) self.new }
     {
         let place = table_lookup::place_of(&table.numbers, table.count, number);
         let verdict = self.verdict(table, place, line, number, length, time);

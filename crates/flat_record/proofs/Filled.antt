@@ -16,13 +16,12 @@ use Rattle.port_scheduler.proofs.Shown.{entries_take, length_shown, queue_shown}
 use Rattle.flat_queues.specs.declared.Rings.{Rings}
 use Rattle.flat_queues.specs.View.{ring, rings_of, queues_in, HasRoom, Kept}
 use Rattle.flat_queues.proofs.Rounds.{length_ring, length_rings, ring_at, one_set}
-use Rattle.flat_record.specs.Promised.{QueuePut, QueuesPut}
+use Rattle.flat_record.specs.Promised.{QueuePut, QueuePutInPlace, QueuesPut}
 
 -- ---- one ring: it has the first i frames of the queue
 pub record Filling (q : Queue) (p : ℕ) (r₀ r : Rings) (i : ℕ) : Type 0 where
   pub rings : queues_in r ≡ set (queues_in r₀) p (map view_frame (take i q.frames))
   pub beside : Kept r₀ r
-  pub heads : r.heads ≡ r₀.heads
 
 -- a ring that counts none is empty
 emptied : (frames heads counts : List ℕ) (p : ℕ) → p < length counts → rings_of frames heads (set counts p 0) ≡ set (rings_of frames heads counts) p []
@@ -34,7 +33,7 @@ emptied frames heads counts p h =
 
 pub none_filled : (q : Queue) (p : ℕ) (r : Rings) → p < length r.counts →
     Filling q p r (record { frames = r.frames; heads = r.heads; counts = set r.counts p 0; held = r.held; marks = r.marks }) 0
-none_filled q p r h = record { rings = emptied r.frames r.heads r.counts p h; beside = record { held = refl; marks = refl }; heads = refl }
+none_filled q p r h = record { rings = emptied r.frames r.heads r.counts p h; beside = record { held = refl; marks = refl } }
 
 module _ {q : Queue} {p : ℕ} {r₀ r : Rings} {i : ℕ} (eight : p < length (queues_in r₀)) (k : Filling q p r₀ r i) where
   -- so many frames
@@ -51,8 +50,8 @@ module _ {q : Queue} {p : ℕ} {r₀ r : Rings} {i : ℕ} (eight : p < length (q
   room_left h w few = record { ring = h; unfilled = omega (arith, ring_counts (omega arith)) }
 
   pub one_filled : {r' : Rings} {x y : ℕ} → i < length q.frames → x ≡ (get_or q.frames i blank_entry).number → y ≡ (get_or q.frames i blank_entry).length →
-      queues_in r' ≡ queued_last (queues_in r) p (arrived x y (get_or q.frames i blank_entry).arrival) → Kept r r' → r'.heads ≡ r.heads → Filling q p r₀ r' (i + 1)
-  one_filled {r'} {x} {y} few a b e beside heads =
+      queues_in r' ≡ queued_last (queues_in r) p (arrived x y (get_or q.frames i blank_entry).arrival) → Kept r r' → Filling q p r₀ r' (i + 1)
+  one_filled {r'} {x} {y} few a b e beside =
       let before = queues_in r₀ in
       let front = map view_frame (take i q.frames) in
       record {
@@ -68,12 +67,28 @@ module _ {q : Queue} {p : ℕ} {r₀ r : Rings} {i : ℕ} (eight : p < length (q
               b,
             );
         beside = record { held = beside.held ∙ k.beside.held; marks = beside.marks ∙ k.beside.marks };
-        heads = heads ∙ k.heads;
       }
 
   pub all_filled : q.count ≤ length q.frames → i ≡ q.count → QueuePut q p r₀ r
   unfolding view_queue
-  all_filled few e = record { rings = k.rings ∙ rw (e, entries_take blank_entry q.count q.frames few); beside = k.beside; heads = k.heads }
+  all_filled few e = record { rings = k.rings ∙ rw (e, entries_take blank_entry q.count q.frames few); beside = k.beside }
+
+-- ---- and the heads stay
+pub record FillingInPlace (q : Queue) (p : ℕ) (r₀ r : Rings) (i : ℕ) : Type 0 where
+  pub filling : Filling q p r₀ r i
+  pub heads : r.heads ≡ r₀.heads
+
+pub none_filled_in_place : (q : Queue) (p : ℕ) (r : Rings) → p < length r.counts →
+    FillingInPlace q p r (record { frames = r.frames; heads = r.heads; counts = set r.counts p 0; held = r.held; marks = r.marks }) 0
+none_filled_in_place q p r h = record { filling = none_filled q p r h; heads = refl }
+
+module _ {q : Queue} {p : ℕ} {r₀ r : Rings} {i : ℕ} (eight : p < length (queues_in r₀)) (k : FillingInPlace q p r₀ r i) where
+  pub one_filled_in_place : {r' : Rings} {x y : ℕ} → i < length q.frames → x ≡ (get_or q.frames i blank_entry).number → y ≡ (get_or q.frames i blank_entry).length →
+      queues_in r' ≡ queued_last (queues_in r) p (arrived x y (get_or q.frames i blank_entry).arrival) → Kept r r' → r'.heads ≡ r.heads → FillingInPlace q p r₀ r' (i + 1)
+  one_filled_in_place few a b e beside heads = record { filling = one_filled eight k.filling few a b e beside; heads = heads ∙ k.heads }
+
+  pub all_filled_in_place : q.count ≤ length q.frames → i ≡ q.count → QueuePutInPlace q p r₀ r
+  all_filled_in_place few e = record { put = all_filled eight k.filling few e; heads = k.heads }
 
 -- ---- the first i rings
 pub record Filled (queues : List Queue) (r : Rings) (i : ℕ) : Type 0 where

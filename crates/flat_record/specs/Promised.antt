@@ -30,10 +30,14 @@ pub record QueueFits (q : Queue) (p : ℕ) : Type 0 where
   pub eight : p < 8
   pub few : q.count ≤ most_frames
 
--- ring p is the queue; the other rings stay, and so do held bytes, marks and heads
+-- ring p is the queue; the other rings stay, and so do held bytes and marks
 pub record QueuePut (q : Queue) (p : ℕ) (r r' : Rings) : Type 0 where
   pub rings : queues_in r' ≡ set (queues_in r) p (view_queue q)
   pub beside : Kept r r'
+
+-- and the heads of the rings stay
+pub record QueuePutInPlace (q : Queue) (p : ℕ) (r r' : Rings) : Type 0 where
+  pub put : QueuePut q p r r'
   pub heads : r'.heads ≡ r.heads
 
 -- queues that have no more frames than rings have slots

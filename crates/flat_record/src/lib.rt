@@ -4,7 +4,7 @@
 ghost use Rattle.std.specs.Prelude.{◌≡◌, ◌+◌, ◌≤◌, length};
 ghost use Rattle.flat_queues.specs.View.{frame_at, queues_in};
 ghost use Rattle.port_scheduler.specs.View.{view_frame};
-ghost use Rattle.flat_record.specs.Promised.{CountsPut, CountsRead, QueueFits, QueuePut, QueuesFit, QueuesPut};
+ghost use Rattle.flat_record.specs.Promised.{CountsPut, CountsRead, QueueFits, QueuePutInPlace, QueuesFit, QueuesPut};
 ghost use Rattle.flat_record.specs.Promised.{Narrow, RingFits, RingRead, RingsFit, QueuesRead};
 
 use flat_queues::{Rings, slot};
@@ -47,7 +47,7 @@ pub fn counts_of(tallies: &[u64; 1281]) -> [u64; 1024]
 // The queue into ring p.
 fn put_queue(q: Queue, p: usize, rings: &mut Rings)
     requires { QueueFits q p }
-    ensures { QueuePut q p rings.old rings.new }
+    ensures { QueuePutInPlace q p rings.old rings.new }
 {
     rings.counts[p] = 0;
     let n = usize::from(q.count);

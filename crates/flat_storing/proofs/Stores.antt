@@ -19,7 +19,7 @@ use Rattle.port_scheduler.proofs.Sums.{frames_last}
 use Rattle.flat_queues.specs.declared.Rings.{Rings}
 use Rattle.flat_queues.specs.View.{queues_in}
 use Rattle.flat_scheduler.specs.Promised.{Holds}
-use Rattle.flat_storing.specs.Storing.{Shown, Settles, Kept}
+use Rattle.flat_storing.specs.Storing.{Shown, Settles, Kept, KeptInPlace}
 
 -- ---- the held bytes
 last_bytes : (qs : List (List Frame)) (p : ℕ) (f : Frame) → p < length qs → heldBytes (queue_of (queued_last qs p f) p) ≡ heldBytes (queue_of qs p) + occupied f.length
@@ -63,7 +63,14 @@ module _ {held : List ℕ} {qs : List (List Frame)} {marks : List ℕ} (k : Hold
 
 -- ---- what is touched
 pub nothing : (r : Rings) → Kept r 3 r
-nothing r = record { either = inr refl; stored = λ e. absurd (omega arith); dropped = λ e. refl; heads = refl }
+nothing r = record { either = inr refl; stored = λ e. absurd (omega arith); dropped = λ e. refl }
 
-pub one_frame : {r r' : Rings} (p : ℕ) (f : Frame) → p < length (queues_in r) → queues_in r' ≡ queued_last (queues_in r) p f → r'.heads ≡ r.heads → Kept r 0 r'
-one_frame {r} p f h q e = record { either = inl refl; stored = λ e. rw q (frames_last (queues_in r) p f h); dropped = λ e. absurd (omega arith); heads = e }
+pub one_frame : {r r' : Rings} (p : ℕ) (f : Frame) → p < length (queues_in r) → queues_in r' ≡ queued_last (queues_in r) p f → Kept r 0 r'
+one_frame {r} p f h q = record { either = inl refl; stored = λ e. rw q (frames_last (queues_in r) p f h); dropped = λ e. absurd (omega arith) }
+
+-- and the heads stay
+pub nothing_in_place : (r : Rings) → KeptInPlace r 3 r
+nothing_in_place r = record { kept = nothing r; heads = refl }
+
+pub one_frame_in_place : {r r' : Rings} (p : ℕ) (f : Frame) → p < length (queues_in r) → queues_in r' ≡ queued_last (queues_in r) p f → r'.heads ≡ r.heads → KeptInPlace r 0 r'
+one_frame_in_place p f h q e = record { kept = one_frame p f h q; heads = e }

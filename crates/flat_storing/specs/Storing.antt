@@ -30,9 +30,13 @@ pub record Settles (t : Table) (s : Port) (p : ℕ) (f : Frame) (verdict : ℕ) 
   pub verdict_is : verdict ≡ (store t s p f).verdict
   pub port_is : with_queues s queues marks ≡ (store t s p f).port
 
--- stored: one frame more is held; dropped: nothing is touched; the heads stay
+-- stored: one frame more is held; dropped: nothing is touched
 pub record Kept (r : Rings) (verdict : ℕ) (r' : Rings) : Type 0 where
   pub either : (verdict ≡ 0) ⊎ (verdict ≡ 3)
   pub stored : verdict ≡ 0 → frames_held (queues_in r') ≡ frames_held (queues_in r) + 1
   pub dropped : verdict ≡ 3 → r' ≡ r
+
+-- and the heads of the rings stay
+pub record KeptInPlace (r : Rings) (verdict : ℕ) (r' : Rings) : Type 0 where
+  pub kept : Kept r verdict r'
   pub heads : r'.heads ≡ r.heads

@@ -7,7 +7,7 @@ ghost use Rattle.model.specs.Report.{arrived};
 ghost use Rattle.port_refusals.specs.Verdicts.{verdict_of};
 ghost use Rattle.flat_queues.specs.View.{queues_in};
 ghost use Rattle.flat_scheduler.specs.Promised.{Holds};
-ghost use Rattle.flat_storing.specs.Storing.{Roomy, Shown, Settles, Kept};
+ghost use Rattle.flat_storing.specs.Storing.{Roomy, Shown, Settles, KeptInPlace};
 
 use flat_queues::Rings;
 use port_refusals::Verdict;
@@ -22,7 +22,7 @@ pub fn settle(
     time: u64,
 ) -> Verdict
     requires { Roomy rings.old p size length }
-    ensures { ((t : Table) (s : Port) → Shown t s p size (queues_in rings.old) rings.old.marks → Settles t s p (arrived number length time) (verdict_of result) (queues_in rings.new) rings.new.marks) × Holds rings.new.held (queues_in rings.new) × Kept rings.old (verdict_of result) rings.new }
+    ensures { ((t : Table) (s : Port) → Shown t s p size (queues_in rings.old) rings.old.marks → Settles t s p (arrived number length time) (verdict_of result) (queues_in rings.new) rings.new.marks) × Holds rings.new.held (queues_in rings.new) × KeptInPlace rings.old (verdict_of result) rings.new }
 {
     let before = rings.held[p];
     let more = units::occupancy(length);

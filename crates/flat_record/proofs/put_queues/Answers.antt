@@ -14,7 +14,7 @@ pub held-requires : goal.held-requires
 held-requires c = c.requires c.loop-p.p (omega arith)
 
 pub loop-p-preserved : goal.loop-p-preserved
-loop-p-preserved c = (ring_more c.args.queues (omega arith) c.loop-p.invariant.0 c.put_queue.ensures c.held.ensures c.from.ensures, c.put_queue.ensures.heads ∙ c.loop-p.invariant.1)
+loop-p-preserved c = (ring_more c.args.queues (omega arith) c.loop-p.invariant.0 c.put_queue.ensures.put c.held.ensures c.from.ensures, c.put_queue.ensures.heads ∙ c.loop-p.invariant.1)
 
 pub returns : goal.returns
 returns c = (eight_rings (queues_eight c.args.queues _ c.well_formed.0) (let e : c.loop-p.p ≡ 8 = omega arith in rw e at c.loop-p.invariant.0), c.loop-p.invariant.1)

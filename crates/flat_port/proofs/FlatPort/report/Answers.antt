@@ -31,20 +31,23 @@ pub overflow_sub-left : goal.overflow_sub-left
 overflow_sub-left c =
     let r = view_report c.args.report in
     let ok = not_refused c.requires r c.args.list.now (c.from-lines.ensures ∙ lines_shown c.args.table.now) c.in_ok-check.ensures refl in
-    few_freed c.requires r c.args.list.now ok c.tick_of-time.ensures c.advance-moved.result.sender c.advance-moved.new.rings c.advance-moved.ensures
+    let a = c.advance-moved.ensures in
+    few_freed c.requires r c.args.list.now ok c.tick_of-time.ensures c.advance-moved.result.sender c.advance-moved.new.rings (a.0, a.1, a.2, a.3)
 
 pub returns-in_default : goal.returns-in_default
 returns-in_default c =
     let r = view_report c.args.report in
     let ok = not_refused c.requires r c.args.list.now (c.from-lines.ensures ∙ lines_shown c.args.table.now) c.in_ok-check.ensures refl in
+    let a = c.advance-moved.ensures in
     rw c.set.ensures
-    (waits c.requires r c.args.list.now ok c.tick_of-time.ensures c.advance-moved.result.sender c.advance-moved.new.rings c.advance-moved.ensures (ap view_report c.in_default.is))
+    (waits c.requires r c.args.list.now ok c.tick_of-time.ensures c.advance-moved.result.sender c.advance-moved.new.rings (a.0, a.1, a.2, a.3) (ap view_report c.in_default.is))
 
 pub judge-verdict-requires : goal.judge-verdict-requires
 judge-verdict-requires c =
     let r = view_report c.args.report in
     let ok = not_refused c.requires r c.args.list.now (c.from-lines.ensures ∙ lines_shown c.args.table.now) c.in_ok-check.ensures refl in
-    arrived c.requires r c.args.list.now ok c.tick_of-time.ensures c.advance-moved.result.sender c.advance-moved.new.rings c.advance-moved.ensures (ap view_report c.in-Frame.is)
+    let a = c.advance-moved.ensures in
+    arrived c.requires r c.args.list.now ok c.tick_of-time.ensures c.advance-moved.result.sender c.advance-moved.new.rings (a.0, a.1, a.2, a.3) (ap view_report c.in-Frame.is)
 
 pub overflow_add-left : goal.overflow_add-left
 overflow_add-left c = omega (arith, few_held (view_table c.args.table.now) c.args.self.now c.requires, c.stored.ensures, stored_most (verdict_of c.judge-verdict.result))
@@ -53,6 +56,7 @@ pub returns : goal.returns
 returns c =
     let r = view_report c.args.report in
     let ok = not_refused c.requires r c.args.list.now (c.from-lines.ensures ∙ lines_shown c.args.table.now) c.in_ok-check.ensures refl in
+    let a = c.advance-moved.ensures in
     rw c.set-2.ensures
-    (frames c.requires r c.args.list.now ok c.tick_of-time.ensures c.advance-moved.result.sender c.advance-moved.new.rings c.advance-moved.ensures (ap view_report c.in-Frame.is)
-    c.judge-verdict.ensures (ap (λ (m : ℕ). c.args.self.now.state.frames - c.advance-moved.result.frames + m) c.stored.ensures))
+    (frames c.requires r c.args.list.now ok c.tick_of-time.ensures c.advance-moved.result.sender c.advance-moved.new.rings (a.0, a.1, a.2, a.3) (ap view_report c.in-Frame.is)
+    c.judge-verdict.ensures.gives (ap (λ (m : ℕ). c.args.self.now.state.frames - c.advance-moved.result.frames + m) c.stored.ensures))

@@ -1,6 +1,6 @@
 use native.Mathlib.Omega.{arith}
 use Rattle.table_lookup.proofs.Tables.{searchable}
-use Rattle.flat_port.proofs.Judged.{Sized, is_counted}
+use Rattle.flat_port.proofs.Judged.{Sized, is_counted_in_place}
 use Rattle.flat_port.proofs.Verdicts.{place_shown, within, place_few}
 use Rattle.flat_port.proofs.Lists.judge.Goals as goal
 
@@ -19,4 +19,4 @@ returns c =
     let found = c.place_of-place.ensures in
     let z : Sized c.args.self.now = record { ticks = omega arith; accounts = omega arith } in
     let v = c.verdict-verdict.ensures in
-    is_counted z c.requires c.args.number c.args.time v.0 v.1 (place_shown t c.requires c.args.number found) (within t c.requires c.args.number found) (rw v.1 at c.tally.ensures)
+    is_counted_in_place z c.requires c.args.number c.args.time v.0 v.1 (place_shown t c.requires c.args.number found) (within t c.requires c.args.number found) (rw v.1 at c.tally.ensures)
